@@ -1,0 +1,77 @@
+-- What is known of a job that is answered with a network: no refusal was given, and the network is what Phase II leaves of the
+-- state in which Phase I settles.
+use mathlib.Core.Path.{_≡_, refl, sym, ap, _∙_}
+use mathlib.Core.Logic.{_≢_}
+use mathlib.Core.Bool.{Bool, true, false, cond}
+use mathlib.Core.List.{List}
+use Prim.Native.Nat.{ℕ, _≤_}
+use native.Mathlib.Omega.{arith}
+use lib.Dec.{eqb}
+use lib.ListN.{length}
+use borrow.Author.Tests.{eqb-true}
+use Rattle.rules.specs.Answers.{number, when_refuse_else_, passed}
+use Rattle.rules.specs.Job.{Bytes, epsilon, weights, jobRows, checked}
+use Rattle.rules.specs.Lent.{Lent, areaShort}
+use Rattle.rules.specs.Types.{sampled, tooMany, row129}
+use Rattle.rules.specs.Purge.{Run}
+use Rattle.rules.specs.Round.{made}
+use Rattle.rules.specs.Run.{Outcome, settled, full, start, phaseOne, Network, phaseTwo}
+use Rattle.rules.specs.Call.{Verdict, refused, found, _then_, concluded, ended, outcome, verdict}
+use Rattle.rules.specs.declared.Answer.{Answer}
+use Rattle.rules.specs.declared.Answer.the-variants.{Area, Types}
+use Rattle.rules.proofs.Ends.{phase-one}
+use Rattle.rules.proofs.Keeps.{made-count}
+use Rattle.rules.proofs.Types.{few-sampled}
+use Rattle.claims.specs.Refusals.{Runs}
+use Rattle.claims.proofs.Drawing.{never-split-network}
+
+pub record Found (lent : Lent) (job : Bytes) (net : Network) : Type 0 where
+  pub areas : areaShort lent ≡ false
+  pub checks : number (checked job) ≡ 0
+  pub few : length (sampled (jobRows job)) ≤ 128
+  pub run : Run
+  pub runs : Runs job (settled run)
+  pub left : net ≡ phaseTwo (weights job) run
+
+differ : {a : Answer} {net : Network} → refused a ≡ found net → ⊥
+differ e = let z : _≡_ {A = ℕ} 0 1 = cc in omega arith
+
+-- A network behind a test means that the test refused nothing.
+passes-on : (a : Answer) (v : Verdict) {net : Network} → (a then v) ≡ found net → (number a ≡ 0) × (v ≡ found net)
+passes-on a v {net} = go (eqb (number a) 0) refl
+  where
+    go : (t : Bool) → eqb (number a) 0 ≡ t → cond t v (refused a) ≡ found net → (number a ≡ 0) × (v ≡ found net)
+    go true e f = (eqb-true _ _ e, f)
+    go false e f = absurd (differ f)
+
+unrefused : (t : Bool) (a : Answer) → number a ≢ 0 → number (when t refuse a else passed) ≡ 0 → t ≡ false
+unrefused true a h z = absurd (h z)
+unrefused false a h z = refl
+
+-- Phase I of a job that starts with at most 128 types.
+pub runs-outcome : (job : Bytes) → length (sampled (jobRows job)) ≤ 128 → Runs job (outcome job)
+unfolding outcome
+runs-outcome job h = phase-one (weights job) (epsilon job) (start (jobRows job)) (omega (arith, made-count (start (jobRows job))))
+
+pub found-is : (lent : Lent) (job : Bytes) (net : Network) → verdict lent job ≡ found net → Found lent job net
+unfolding verdict
+found-is lent job net e =
+    let a = passes-on (when areaShort lent refuse Area else passed) _ e in
+    let b = passes-on (checked job) _ (a .1) in
+    let c = passes-on (when tooMany (jobRows job) refuse Types (row129 (jobRows job)) else passed) _ (b .1) in
+    let few = few-sampled (jobRows job) (unrefused _ (Types (row129 (jobRows job))) (omega arith) (c .0)) in
+    let s = settles (outcome job) (runs-outcome job few) (c .1) in
+    record {
+      areas = unrefused (areaShort lent) Area (omega arith) (a .0);
+      checks = b .0;
+      few = few;
+      run = s .0;
+      runs = s .1;
+      left = s .2;
+    }
+  where
+    settles : (end : Outcome) → Runs job end → ended (weights job) end ≡ found net → (run : Run) × Runs job (settled run) × (net ≡ phaseTwo (weights job) run)
+    settles (full round) r f = absurd (differ f)
+    settles (settled run) r f =
+        let g : found (phaseTwo (weights job) run) ≡ found net = rw (never-split-network (weights job) run) at f in
+        (run, r, cc)

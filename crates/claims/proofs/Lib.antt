@@ -1,0 +1,5 @@
+pub mod Drawing
+pub mod Found
+pub mod Drawn
+pub mod Refusals
+pub mod ReadBack

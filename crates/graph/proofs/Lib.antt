@@ -1,0 +1,11 @@
+pub mod Below
+pub mod Walks
+pub mod Spans
+pub mod Links
+pub mod Exchange
+pub mod Feasibility
+pub mod Search
+pub mod Exists
+pub mod Spanning
+pub mod Fewest
+pub mod Theorems

@@ -1,0 +1,14 @@
+pub mod Job
+pub mod Rows
+pub mod Ascending
+pub mod Types
+pub mod Distance
+pub mod Links
+pub mod Rounds
+pub mod Keeps
+pub mod Ends
+pub mod Sound
+pub mod Block
+pub mod Lookup
+pub mod Decimals
+pub mod Table

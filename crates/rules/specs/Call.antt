@@ -1,0 +1,82 @@
+-- The call: what a job is answered, and what everything lent holds afterwards.
+use mathlib.Core.Path.{_≡_}
+use mathlib.Core.Bool.{Bool, cond, not}
+use mathlib.Core.List.{List, [], _++_}
+use Prim.Native.Nat.{ℕ, _-_}
+use lib.Dec.{eqb}
+use lib.ListN.{length, replicate}
+use Rattle.rules.specs.Answers.{number, when_refuse_else_, passed}
+use Rattle.rules.specs.Job.{Bytes, width, epsilon, weights, jobRows, checked}
+use Rattle.rules.specs.Lent.{Lent, areaShort}
+use Rattle.rules.specs.Types.{tooMany, row129}
+use Rattle.rules.specs.Run.{Outcome, settled, full, start, phaseOne, Network, phaseTwo, split}
+use Rattle.rules.specs.Result.{block}
+use Rattle.rules.specs.declared.Answer.{Answer}
+use Rattle.rules.specs.declared.Answer.the-variants.{Done, Area, Types, Room, Split}
+use Rattle.rules.specs.declared.Link.{Link}
+
+-- A job is refused, or has a network.
+pub data Verdict : Type 0 where
+  refused : Answer → Verdict
+  found : Network → Verdict
+
+-- 9 and 10: no room for a round; final links that don't join all kept types.
+abbrev pub concluded : Network → Verdict
+concluded net = cond (split net) (refused Split) (found net)
+
+abbrev pub ended : List ℕ → Outcome → Verdict
+ended ws (full round) = refused (Room round)
+ended ws (settled run) = concluded (phaseTwo ws run)
+
+unfoldable pub outcome : Bytes → Outcome
+outcome job = phaseOne (weights job) (epsilon job) (start (jobRows job))
+
+-- The first refusal given, or what comes next.
+infixr 1 _then_
+abbrev pub _then_ : Answer → Verdict → Verdict
+a then next = cond (eqb (number a) 0) next (refused a)
+
+-- The refusals in the order they are tried: 1, then 2 to 7, then 8, then 9 and 10.
+unfoldable pub verdict : Lent → Bytes → Verdict
+verdict lent job =
+    (when areaShort lent refuse Area else passed) then
+    checked job then
+    (when tooMany (jobRows job) refuse Types (row129 (jobRows job)) else passed) then
+    ended (weights job) (outcome job)
+
+-- The bytes written: those of the network's block, or none.
+abbrev pub written : ℕ → Verdict → Bytes
+written m (refused a) = []
+written m (found net) = block m net
+
+abbrev pub answerTo : ℕ → Verdict → Answer
+answerTo m (refused a) = a
+answerTo m (found net) = Done (length (block m net))
+
+unfoldable pub answer : Lent → Bytes → Answer
+answer lent job = answerTo (width job) (verdict lent job)
+
+-- A success zeroes the result past the used bytes; a refusal zeroes it to the end.
+abbrev pub padded : ℕ → Bytes → Bytes
+padded n xs = xs ++ replicate (n - length xs) 0
+
+unfoldable pub resultAfter : Lent → Bytes → Bytes
+resultAfter lent job = padded (lent .result) (written (width job) (verdict lent job))
+
+-- All work memory is zero to its end, whatever the answer.
+abbrev pub statesAfter : Lent → Bytes
+statesAfter lent = replicate (lent .states) 0
+
+abbrev pub distancesAfter : Lent → List ℕ
+distancesAfter lent = replicate (lent .distances) 0
+
+abbrev pub linksAfter : Lent → List Link
+linksAfter lent = replicate (lent .links) (record { low = 0; high = 0; length = 0 })
+
+-- What a call must do: answer so, and leave result, state area, distance area and link table so.
+pub record Served (lent : Lent) (job : Bytes) (r : Answer) (result states : Bytes) (distances : List ℕ) (links : List Link) : Type 0 where
+  pub answered : r ≡ answer lent job
+  pub result-left : result ≡ resultAfter lent job
+  pub states-left : states ≡ statesAfter lent
+  pub distances-left : distances ≡ distancesAfter lent
+  pub links-left : links ≡ linksAfter lent

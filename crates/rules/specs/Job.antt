@@ -1,0 +1,80 @@
+-- Job block, and the refusals 2 to 7 that are told from the job alone.
+use mathlib.Core.Bool.{Bool, not, _||_}
+use mathlib.Core.List.{List}
+use Prim.Native.Nat.{ℕ, _+_, _*_}
+use lib.Dec.{ltb, eqb}
+use lib.ListN.{length, getD}
+use Rattle.graph.specs.Below.{table, first}
+use Rattle.rules.specs.Answers.{when_refuse_else_, passed}
+use Rattle.rules.specs.declared.Answer.{Answer}
+use Rattle.rules.specs.declared.Answer.the-variants.{Head, Rows, Width, Layout, Weight, State}
+
+abbrev pub Bytes : Type 0
+Bytes = List ℕ
+
+-- Numbers of 16 bits, low byte first: the one at a byte of a block.
+abbrev pub word : Bytes → ℕ → ℕ
+word b i = getD b i 0 + 256 * getD b (i + 1) 0
+
+-- Six numbers: rows n, width m, epsilon, and three that must be 12, 12 + 2m and 12 + 2m + nm.
+abbrev pub rows : Bytes → ℕ
+rows job = word job 0
+
+abbrev pub width : Bytes → ℕ
+width job = word job 2
+
+abbrev pub epsilon : Bytes → ℕ
+epsilon job = word job 4
+
+abbrev pub weightsOffset : ℕ
+weightsOffset = 12
+
+abbrev pub statesOffset : Bytes → ℕ
+statesOffset job = 12 + 2 * width job
+
+abbrev pub wholeLength : Bytes → ℕ
+wholeLength job = 12 + 2 * width job + rows job * width job
+
+-- Weights are m numbers of 16 bits.
+abbrev pub weightAt : Bytes → ℕ → ℕ
+weightAt job c = word job (weightsOffset + 2 * c)
+
+unfoldable pub weights : Bytes → List ℕ
+weights job = table (width job) (weightAt job)
+
+-- States are n rows of m bytes: the state at a place counted from 0 over all states, a row, and all rows.
+abbrev pub stateAt : Bytes → ℕ → ℕ
+stateAt job i = getD job (statesOffset job + i) 0
+
+abbrev pub Row : Type 0
+Row = List ℕ
+
+unfoldable pub jobRow : Bytes → ℕ → Row
+jobRow job k = table (width job) (λ c. stateAt job (k * width job + c))
+
+unfoldable pub jobRows : Bytes → List Row
+jobRows job = table (rows job) (jobRow job)
+
+-- Each weight is 1 to 1,000, each state 33 to 126; of those that are not, the first, or m and nm where there is none.
+abbrev pub outside : ℕ → ℕ → ℕ → Bool
+outside low high x = ltb x low || ltb high x
+
+unfoldable pub badWeight : Bytes → ℕ
+badWeight job = first (width job) (λ c. outside 1 1000 (weightAt job c))
+
+unfoldable pub badState : Bytes → ℕ
+badState job = first (rows job * width job) (λ i. outside 33 126 (stateAt job i))
+
+-- The refusals 2 to 7 in the order they are tried.
+unfoldable pub checked : Bytes → Answer
+checked job =
+    when ltb (length job) 12 refuse Head else
+    when outside 1 256 (rows job) refuse Rows else
+    when outside 1 64 (width job) refuse Width else
+    when not (eqb (word job 6) weightsOffset) refuse Layout 6 else
+    when not (eqb (word job 8) (statesOffset job)) refuse Layout 8 else
+    when not (eqb (word job 10) (wholeLength job)) refuse Layout 10 else
+    when not (eqb (length job) (wholeLength job)) refuse Layout 12 else
+    when ltb (badWeight job) (width job) refuse Weight (badWeight job) else
+    when ltb (badState job) (rows job * width job) refuse State (badState job) else
+    passed

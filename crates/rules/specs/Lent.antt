@@ -1,0 +1,15 @@
+-- Lent memory: how long each area is, and the refusal 1. What the areas held before is not asked.
+use mathlib.Core.Bool.{Bool, _||_}
+use Prim.Native.Nat.{ℕ}
+use lib.Dec.{ltb}
+
+-- The lengths lent: result bytes, state bytes, distances, links.
+pub record Lent : Type 0 where
+  pub result : ℕ
+  pub states : ℕ
+  pub distances : ℕ
+  pub links : ℕ
+
+-- A lent area is shorter than 57,680 bytes, 8,192 bytes, 16,384 numbers or 8,128 records.
+unfoldable pub areaShort : Lent → Bool
+areaShort lent = ltb (lent .result) 57680 || ltb (lent .states) 8192 || ltb (lent .distances) 16384 || ltb (lent .links) 8128

@@ -1,0 +1,15 @@
+pub mod Answers
+pub mod Job
+pub mod Lent
+pub mod Types
+pub mod Distance
+pub mod Links
+pub mod Purge
+pub mod Median
+pub mod Round
+pub mod Run
+pub mod Result
+pub mod Lookup
+pub mod Call
+pub mod Text
+pub mod Cases
