@@ -1,24 +1,21 @@
 -- Demand 3: what is drawn for a job is all cheapest trees over the kept types, laid over each other.
-use mathlib.Core.Path.{_≡_, refl, sym, ap, _∙_}
+use mathlib.Core.Path.{_≡_, ap}
 use mathlib.Core.Logic.{_↔_, _≢_, Iff·trans, Iff·symm}
-use mathlib.Core.Bool.{Bool, true, false, not, cond}
-use mathlib.Core.List.{List, [], _∷_, _++_}
-use Prim.Native.Nat.{ℕ, _+_, _≤_, _<_}
-use native.Mathlib.Omega.{arith}
-use lib.ListN.{length, length-map, length-append, getD, List·getD-append}
-use lib.Seq.{getD-append-add}
-use Rattle.graph.specs.Below.{sum}
+use mathlib.Core.Bool.{true, false, not}
+use mathlib.Core.List.{List}
+use Prim.Native.Nat.{ℕ, _<_}
+use lib.ListN.{length, length-map}
 use Rattle.graph.specs.Walk.{Walk}
 use Rattle.graph.specs.Tree.{InCheapest}
-use Rattle.graph.proofs.Below.{In, in-at, in-place, sum-add, sum-ext, sum-zero}
+use Rattle.graph.proofs.Below.{in-at, in-place}
 use Rattle.graph.proofs.Walks.{relax}
 use Rattle.graph.proofs.Theorems.{links-join, spanned}
 use Rattle.rules.specs.Job.{Row}
-use Rattle.rules.specs.Types.{Node, nodeAt, rowsOf}
+use Rattle.rules.specs.Types.{Node, rowsOf}
 use Rattle.rules.specs.Distance.{apart}
-use Rattle.rules.specs.Links.{FeasibleLink, linksAt, linkAt, Between, linked, joinAll}
-use Rattle.rules.specs.Purge.{Run, linksOf, purge}
-use Rattle.rules.specs.Run.{Network, phaseTwo, split}
+use Rattle.rules.specs.Links.{FeasibleLink, linksAt, linkAt, linked}
+use Rattle.rules.specs.Purge.{Run, purge}
+use Rattle.rules.specs.Run.{phaseTwo, split}
 use Rattle.rules.specs.declared.Link.{Link}
 use Rattle.rules.proofs.Distance.{apart-sym}
 use Rattle.rules.proofs.Links.{linked-in, linked-is, never-split}

@@ -1,32 +1,30 @@
 -- Demand 3, put together: what is drawn for every job that is answered with a network.
-use mathlib.Core.Path.{_≡_, refl, sym, ap, _∙_}
-use mathlib.Core.Logic.{_≢_}
+use mathlib.Core.Path.{_≡_, refl, ap, _∙_}
 use mathlib.Core.Bool.{true}
-use mathlib.Core.List.{List, [], _++_}
+use mathlib.Core.List.{List}
 use Prim.Native.Nat.{ℕ, _+_, _≤_, _<_}
 use native.Mathlib.Omega.{arith}
-use lib.ListN.{length, length-map, length-append, getD, List·getD-append}
+use lib.ListN.{length, length-map, length-append, List·getD-append}
 use lib.Seq.{getD-append-add}
 use Rattle.graph.specs.Below.{sum}
 use Rattle.graph.proofs.Below.{In, in-at, sum-add, sum-ext, sum-zero}
-use Rattle.rules.specs.Job.{Bytes, Row, rows, width, weights, jobRows}
+use Rattle.rules.specs.Job.{Bytes, rows, width, weights, jobRows}
 use Rattle.rules.specs.Lent.{Lent}
 use Rattle.rules.specs.Types.{Node, inferred, rowCount, nodeAt, rowsOf, sampled}
-use Rattle.rules.specs.Links.{linkAt, linkCount}
+use Rattle.rules.specs.Links.{linkCount}
 use Rattle.rules.specs.Purge.{Run, linksOf, purge}
 use Rattle.rules.specs.Run.{Network, phaseTwo}
 use Rattle.rules.specs.Call.{found, verdict}
-use Rattle.rules.specs.declared.Origin.{Origin}
-use Rattle.rules.specs.declared.Origin.the-variants.{Sampled, Inferred}
-use Rattle.rules.proofs.Job.{length-rows, row-widths}
+use Rattle.rules.specs.declared.Origin.the-variants.{Inferred}
+use Rattle.rules.proofs.Job.{length-rows}
 use Rattle.rules.proofs.Types.{row-counts}
 use Rattle.rules.proofs.Links.{links-at, links-order}
 use Rattle.rules.proofs.Ends.{purge-links}
-use Rattle.rules.proofs.Sound.{InferredBy, Sound, sound-settled, sound-purge}
+use Rattle.rules.proofs.Sound.{InferredBy, Sound}
 use Rattle.claims.specs.Drawing as drawing
 use Rattle.claims.specs.Drawing.{Drawn}
 use Rattle.claims.proofs.Drawing.{listed-cheapest, network-joined}
-use Rattle.claims.proofs.Found.{Found, found-is}
+use Rattle.claims.proofs.Found.{found-is, found-sound}
 
 -- An origin that is a round's, in words.
 by-round : (rounds : ℕ) (t : Node) → InferredBy rounds t → drawing.InferredBy rounds (t .origin)
@@ -88,5 +86,4 @@ module _ (job : Bytes) (run : Run) (sound : Sound (jobRows job) (width job) (pur
 pub drawn : (lent : Lent) (job : Bytes) (net : Network) → verdict lent job ≡ found net → Drawn job net
 drawn lent job net e =
     let f = found-is lent job net e in
-    let s = sound-purge (weights job) 0 _ _ _ (sound-settled (jobRows job) (width job) (f .runs) (row-widths job) (f .few)) in
-    rw (f .left) (drawn-network job (f .run) s)
+    rw (f .left) (drawn-network job (f .run) (found-sound f))

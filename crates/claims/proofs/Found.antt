@@ -1,27 +1,28 @@
 -- What is known of a job that is answered with a network: no refusal was given, and the network is what Phase II leaves of the
 -- state in which Phase I settles.
 use mathlib.Core.Path.{_≡_, refl, sym, ap, _∙_}
-use mathlib.Core.Logic.{_≢_}
+use mathlib.Core.Logic.{_≢_, _↔_}
 use mathlib.Core.Bool.{Bool, true, false, cond}
 use mathlib.Core.List.{List}
 use Prim.Native.Nat.{ℕ, _≤_}
 use native.Mathlib.Omega.{arith}
 use lib.Dec.{eqb}
 use lib.ListN.{length}
-use borrow.Author.Tests.{eqb-true}
+use borrow.Author.Tests.{eqb-true, eqb-false}
 use Rattle.rules.specs.Answers.{number, when_refuse_else_, passed}
-use Rattle.rules.specs.Job.{Bytes, epsilon, weights, jobRows, checked}
+use Rattle.rules.specs.Job.{Bytes, width, epsilon, weights, jobRows, checked}
 use Rattle.rules.specs.Lent.{Lent, areaShort}
 use Rattle.rules.specs.Types.{sampled, tooMany, row129}
-use Rattle.rules.specs.Purge.{Run}
-use Rattle.rules.specs.Round.{made}
-use Rattle.rules.specs.Run.{Outcome, settled, full, start, phaseOne, Network, phaseTwo}
-use Rattle.rules.specs.Call.{Verdict, refused, found, _then_, concluded, ended, outcome, verdict}
+use Rattle.rules.specs.Purge.{Run, purge}
+use Rattle.rules.specs.Run.{Outcome, settled, full, start, Network, phaseTwo}
+use Rattle.rules.specs.Call.{Verdict, refused, found, _then_, ended, outcome, verdict, answer, answerTo}
 use Rattle.rules.specs.declared.Answer.{Answer}
-use Rattle.rules.specs.declared.Answer.the-variants.{Area, Types}
+use Rattle.rules.specs.declared.Answer.the-variants.{Area, Types, Room}
 use Rattle.rules.proofs.Ends.{phase-one}
 use Rattle.rules.proofs.Keeps.{made-count}
+use Rattle.rules.proofs.Job.{row-widths}
 use Rattle.rules.proofs.Types.{few-sampled}
+use Rattle.rules.proofs.Sound.{Sound, sound-settled, sound-purge}
 use Rattle.claims.specs.Refusals.{Runs}
 use Rattle.claims.proofs.Drawing.{never-split-network}
 
@@ -75,3 +76,43 @@ found-is lent job net e =
     settles (settled run) r f =
         let g : found (phaseTwo (weights job) run) ≡ found net = rw (never-split-network (weights job) run) at f in
         (run, r, cc)
+
+-- The state that Phase II leaves is sound.
+pub found-sound : {lent : Lent} {job : Bytes} {net : Network} (f : Found lent job net) → Sound (jobRows job) (width job) (purge (weights job) 0 (f .run))
+found-sound {job} f = sound-purge (weights job) 0 _ _ _ (sound-settled (jobRows job) (width job) (f .runs) (row-widths job) (f .few))
+
+-- ── No refusal is given exactly if a network is found ──
+
+-- A refusal that comes out of the tests has a number.
+abbrev Numbered : Verdict → Type 0
+Numbered v = (a : Answer) → v ≡ refused a → number a ≢ 0
+
+refuses-numbered : (a : Answer) → number a ≢ 0 → Numbered (refused a)
+refuses-numbered a n b e z = n (let f : a ≡ b = cc in ap number f ∙ z)
+
+then-numbered : (a : Answer) (v : Verdict) → Numbered v → Numbered (a then v)
+then-numbered a v n = go (eqb (number a) 0) refl
+  where
+    go : (t : Bool) → eqb (number a) 0 ≡ t → Numbered (cond t v (refused a))
+    go true e = n
+    go false e = refuses-numbered a (eqb-false _ _ e)
+
+ended-numbered : (ws : List ℕ) (end : Outcome) → Numbered (ended ws end)
+ended-numbered ws (full round) = refuses-numbered (Room round) (omega arith)
+ended-numbered ws (settled run) = rw (never-split-network ws run) (λ a e. absurd (differ (sym e)))
+
+verdict-numbered : (lent : Lent) (job : Bytes) → Numbered (verdict lent job)
+unfolding verdict
+verdict-numbered lent job =
+    then-numbered (when areaShort lent refuse Area else passed) _
+    (then-numbered (checked job) _
+    (then-numbered (when tooMany (jobRows job) refuse Types (row129 (jobRows job)) else passed) _
+    (ended-numbered (weights job) (outcome job))))
+
+pub answered : (lent : Lent) (job : Bytes) → (number (answer lent job) ≡ 0) ↔ ((net : Network) × (verdict lent job ≡ found net))
+unfolding answer
+answered lent job = (there (verdict lent job) refl, λ s. rw (s .1))
+  where
+    there : (v : Verdict) → verdict lent job ≡ v → number (answerTo (width job) v) ≡ 0 → (net : Network) × (verdict lent job ≡ found net)
+    there (refused a) e z = absurd (verdict-numbered lent job a e z)
+    there (found net) e z = (net, e)

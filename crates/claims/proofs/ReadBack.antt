@@ -1,25 +1,24 @@
 -- The result block read back by its own header gives the network, whatever is behind it, and it has at most 57,680 bytes.
--- Assumes nothing.
 use mathlib.Core.Path.{_≡_, refl, sym, ap, _∙_, subst}
 use mathlib.Core.Bool.{true, not, false≢true}
 use mathlib.Core.List.{List, [], _++_}
-use Prim.Native.Nat.{ℕ, suc, _+_, _*_, _-_, _≤_, _<_}
-use native.Mathlib.Nat.{suc-mul, add-assoc, add-sub-cancel-left, mul-le-mul, mul-le-mul-right}
+use Prim.Native.Nat.{ℕ, _+_, _*_, _-_, _≤_, _<_}
+use native.Mathlib.Nat.{add-sub-cancel-left, mul-le-mul}
 use native.Mathlib.Omega.{arith}
 use native.Mathlib.Decide.{decLt}
 use lib.Dec.{ltb}
-use lib.ListN.{length, getD, take, drop, length-append, length-map, length-drop, List·getD-append}
-use lib.Seq.{ext-getD, getD-take, getD-drop, length-take-le, getD-append-add}
+use lib.ListN.{length, getD, length-append, List·getD-append}
+use lib.Seq.{getD-append-add}
 use borrow.Author.Tests.{not-true, not-false, lt-ltb, le-ltb, le-leb, eq-eqb}
-use Rattle.graph.specs.Below.{table, some}
-use Rattle.graph.proofs.Below.{In, in-at, in-map, in-gather, in-only, length-table, getD-table, table-getD, table-ext, length-kept, count-pos}
+use Rattle.graph.specs.Below.{table}
+use Rattle.graph.proofs.Below.{In, in-at, in-map, table-getD, table-ext, count-le}
 use Rattle.rules.specs.Answers.{number}
-use Rattle.rules.specs.Job.{Bytes, word, rows, width, statesOffset, jobRow, jobRows, checked}
-use Rattle.rules.specs.Types.{Node, inferred, nodeAt, isFirst, firsts, sampledAt, sampled}
+use Rattle.rules.specs.Job.{Bytes, word, rows, width, jobRow, jobRows, checked}
+use Rattle.rules.specs.Types.{Node, inferred, rowAt, nodeAt, sameRow, firsts, sampledAt, sampled}
 use Rattle.rules.specs.Run.{Network}
 use Rattle.rules.specs.Links.{linkAt}
 use Rattle.rules.specs.Result.{recordsOffset, recordSize, rowsOffset, linksOffset, recordOf, block}
-use Rattle.rules.specs.Lookup.{typesIn, sampledTypes, headerFits, placeIn, partOf, lookup}
+use Rattle.rules.specs.Lookup.{typesIn, sampledTypes, headerFits, placeIn, lookup}
 use Rattle.rules.specs.declared.Origin.{Origin}
 use Rattle.rules.specs.declared.Origin.the-variants.{Sampled, Inferred}
 use Rattle.rules.proofs.Job.{Passed, passed-is, length-rows, row-at, row-part}
@@ -39,23 +38,26 @@ pub record Writable (job : Bytes) (net : Network) : Type 0 where
 abbrev none : Node
 none = record { row = []; origin = Sampled 0 0 }
 
--- A sampled type's row is the job's row that it names.
-record FromJob (job : Bytes) (x : Node) : Type 0 where
-  count : ℕ
-  first : ℕ
-  origin-is : x .origin ≡ Sampled count first
-  first-row : first < rows job
-  row-is : x .row ≡ jobRow job first
+-- A sampled type's row is the job's row that it names, and it counts at most all rows.
+pub record FromJob (job : Bytes) (x : Node) : Type 0 where
+  pub count : ℕ
+  pub first : ℕ
+  pub origin-is : x .origin ≡ Sampled count first
+  pub count-most : count ≤ rows job
+  pub first-row : first < rows job
+  pub row-is : x .row ≡ jobRow job first
 
-from-job : (job : Bytes) (x : Node) → In x (sampled (jobRows job)) → FromJob job x
+pub from-job : (job : Bytes) (x : Node) → In x (sampled (jobRows job)) → FromJob job x
 unfolding sampled sampledAt
 from-job job x h =
-    let s = in-map x (sampledAt (jobRows job)) (firsts (jobRows job)) .0 h in
-    let l : s .0 < rows job = rw length-rows at (in-firsts (jobRows job) (s .0) .0 (s .1) .0) in
+    let rs = jobRows job in
+    let s = in-map x (sampledAt rs) (firsts rs) .0 h in
+    let l : s .0 < rows job = rw length-rows at (in-firsts rs (s .0) .0 (s .1) .0) in
     record {
       count = _;
       first = s .0;
       origin-is = ap (λ n. n .origin) (s .2);
+      count-most = omega (arith, count-le (length rs) (λ i. sameRow (rowAt rs i) (rowAt rs (s .0))), length-rows job);
       first-row = l;
       row-is = ap (λ n. n .row) (s .2) ∙ row-at job (s .0) l;
     }

@@ -4,7 +4,7 @@ use mathlib.Core.Path.{_≡_, refl, sym, ap, _∙_}
 use mathlib.Core.Logic.{_⊎_, inl, inr, ⊎-elim, ⊎-map, _↔_, _≢_}
 use mathlib.Core.Bool.{Bool, true, false, not, cond, _||_, false≢true}
 use mathlib.Core.List.{List, [], _∷_, append-nil}
-use Prim.Native.Nat.{ℕ, suc, _+_, _*_, _≤_, _<_}
+use Prim.Native.Nat.{ℕ, suc, _*_, _≤_, _<_}
 use native.Mathlib.Omega.{arith}
 use native.Mathlib.Decide.{ℕ-discrete, decLt}
 use lib.Dec.{ltb, eqb}
@@ -15,10 +15,10 @@ use Rattle.graph.proofs.Below.{or-true, is-false, first-hits, first-before, fir
 use Rattle.rules.specs.Answers.{number, place, when_refuse_else_, passed}
 use Rattle.rules.specs.Job.{Bytes, weightsOffset, word, rows, width, weightAt, stateAt, outside, statesOffset, wholeLength, badWeight, badState, checked, Row, epsilon, weights, jobRows}
 use Rattle.rules.specs.Lent.{Lent, areaShort}
-use Rattle.rules.specs.Types.{firsts, sampled, tooMany, row129}
+use Rattle.rules.specs.Types.{firsts, tooMany, row129}
 use Rattle.rules.specs.Purge.{Run}
 use Rattle.rules.specs.Round.{made}
-use Rattle.rules.specs.Run.{Outcome, settled, full, start, phaseOne, phaseTwo}
+use Rattle.rules.specs.Run.{Outcome, settled, full, start, phaseOne}
 use Rattle.rules.specs.Call.{Verdict, refused, answerTo, _then_, ended, outcome, verdict, answer}
 use Rattle.rules.specs.declared.Answer.{Answer}
 use Rattle.rules.specs.declared.Answer.the-variants.{Done, Area, Head, Rows, Width, Layout, Weight, State, Types, Room, Split}

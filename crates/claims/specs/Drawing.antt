@@ -1,14 +1,14 @@
 -- Demand 3: what is drawn. A link between two kept types is drawn exactly if some cheapest tree over the kept types uses it; every
 -- sampled type is kept; every inferred type has at least three links.
 use mathlib.Core.Path.{_≡_}
-use mathlib.Core.Logic.{_⊎_, _↔_, _≢_}
+use mathlib.Core.Logic.{_↔_, _≢_}
 use mathlib.Core.List.{List, _++_}
 use Prim.Native.Nat.{ℕ, _+_, _≤_, _<_}
 use lib.ListN.{length}
 use Rattle.graph.specs.Below.{sum}
 use Rattle.graph.specs.Walk.{Walk}
 use Rattle.graph.specs.Tree.{InCheapest}
-use Rattle.rules.specs.Job.{Bytes, Row, rows, weights, jobRows}
+use Rattle.rules.specs.Job.{Bytes, rows, weights, jobRows}
 use Rattle.rules.specs.Types.{Node, rowCount, nodeAt, rowsOf, sampled}
 use Rattle.rules.specs.Distance.{apart}
 use Rattle.rules.specs.Links.{linkAt, Between, Before, linkCount}

@@ -1,6 +1,5 @@
 -- The result block read back by its own header: whoever holds job and result block holds the network.
 use mathlib.Core.Bool.{cond}
-use mathlib.Core.List.{List}
 use Prim.Native.Nat.{ℕ, _+_, _*_}
 use lib.Dec.{ltb}
 use Rattle.graph.specs.Below.{table}

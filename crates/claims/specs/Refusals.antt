@@ -5,11 +5,10 @@ use mathlib.Core.Logic.{_⊎_, _≢_}
 use mathlib.Core.List.{List}
 use Prim.Native.Nat.{ℕ, _+_, _*_, _<_}
 use lib.ListN.{length, take}
-use Rattle.rules.specs.Answers.{number}
 use Rattle.rules.specs.Job.{Bytes, Row, word, rows, width, epsilon, weightAt, weights, stateAt, jobRows}
 use Rattle.rules.specs.Lent.{Lent}
 use Rattle.rules.specs.Types.{rowAt, sampled}
-use Rattle.rules.specs.Purge.{Run, Purges}
+use Rattle.rules.specs.Purge.{Run}
 use Rattle.rules.specs.Run.{settled, full, start, PhaseOne, phaseTwo}
 use Rattle.rules.specs.declared.Answer.{Answer}
 use Rattle.rules.specs.declared.Answer.the-variants.{Done, Area, Head, Rows, Width, Layout, Weight, State, Types, Room, Split}

@@ -2,7 +2,6 @@
 -- In order: tables and gathers; membership by index (`In`); `some` and `every`; sums; counts; `first`.
 -- A name's end says what the law is of: -more, one more number, as a loop meets it; -add, the first k and then the rest;
 -- -ext, that what is made of equal parts is equal.
--- Assumes nothing.
 use mathlib.Core.Path.{_≡_, refl, sym, ap, _∙_}
 use mathlib.Core.Logic.{_↔_, _⊎_, inl, inr, ⊎-elim, ⊎-map, _≢_}
 use mathlib.Core.Bool.{Bool, true, false, cond, not, _&&_, _||_, and-eq-true-iff, false≢true}
@@ -12,7 +11,7 @@ use native.Mathlib.Nat.{add-zero, add-suc, suc-mul, not-suc-le-zero}
 use native.Mathlib.Numerals.{add-one}
 use native.Mathlib.Omega.{arith}
 use native.Mathlib.Decide.{ℕ-discrete, decLe}
-use lib.ListN.{length, getD, length-append, List·getD-append}
+use lib.ListN.{length, getD, replicate, length-append, List·getD-append}
 use lib.Seq.{getD-at, ext-getD}
 use Rattle.graph.specs.Below.{table, gather, given, only, sum, count, some, every, first}
 
@@ -139,6 +138,39 @@ module _ {A : Type 0} where
     λ s. rw (s .2, ← getD-table n f (s .0) x (s .1)) (in-at (table n f) (s .0) x (rw length-table (s .1))),
   )
 
+pub in-replicate : {A : Type 0} (x a : A) (n : ℕ) → In x (replicate n a) → x ≡ a
+in-replicate x a (suc n) (inl e) = e
+in-replicate x a (suc n) (inr h) = in-replicate x a n h
+
+-- What holds of a list's element at each place holds of each that is in it, and the other way round.
+pub each-place : {A : Type 0} (P : A → Type 0) (xs : List A) (d : A) → ((i : ℕ) → i < length xs → P (getD xs i d)) ↔ ((x : A) → In x xs → P x)
+each-place P xs d = (
+  λ f x h. let (i, l, at) = in-place x xs h in rw (at d) at (f i l),
+  λ f i l. f _ (in-at xs i d l),
+)
+
+-- What is kept of a list by a test on its elements.
+pub in-kept : {A B : Type 0} (p : A → Bool) (g : A → B) (xs : List A) (d : A) (y : B) →
+    In y (gather (length xs) (λ k. only (p (getD xs k d)) (g (getD xs k d)))) ↔ ((x : A) × In x xs × (p x ≡ true) × (y ≡ g x))
+in-kept {A} {B} p g xs d y =
+    let f : ℕ → List B = λ k. only (p (getD xs k d)) (g (getD xs k d)) in
+    let s = in-gather y (length xs) f in (
+      λ h. let (k, l, i) = s .0 h in let (t, e) = in-only y (p (getD xs k d)) (g (getD xs k d)) .0 i in (getD xs k d, in-at xs k d l, t, e),
+      λ r. let (k, l, at) = in-place (r .0) xs (r .1) in
+          s .1 (k, l, in-only y (p (getD xs k d)) (g (getD xs k d)) .1 (rw (at d) (r .2), r .3 ∙ ap g (sym (at d)))),
+    )
+
+-- A list of no length is empty.
+pub empty : {A : Type 0} (xs : List A) → (length xs ≡ 0) ↔ (xs ≡ [])
+empty [] = (λ e. refl, λ e. refl)
+empty (x ∷ xs) = (λ e. absurd (omega arith), λ e. ap length e)
+
+-- A gather of single elements is a table.
+pub gather-table : {A : Type 0} (n : ℕ) (f : ℕ → A) → gather n (λ i. f i ∷ []) ≡ table n f
+unfolding gather table
+gather-table zero f = refl
+gather-table (suc n) f = rw (gather-table n f)
+
 pub in-map : {A B : Type 0} (y : B) (f : A → B) (xs : List A) → In y (map f xs) ↔ ((x : A) × In x xs × (y ≡ f x))
 in-map y f [] = (absurd, λ s. s .1)
 in-map y f (x ∷ xs) = (
@@ -264,6 +296,9 @@ count-zero n p z = sum-zero n _ (λ i h. rw (z i h))
 -- Number k passes, and no other does.
 pub count-one : (n : ℕ) (p : ℕ → Bool) (k : ℕ) → k < n → p k ≡ true → ((i : ℕ) → i < n → p i ≡ true → i ≡ k) → count n p ≡ 1
 count-one n p k h e u = sum-one n (λ i. cond (p i) 1 0) k h (λ i l ne. rw (is-false (p i) (λ t. ne (u i l t)))) ∙ rw e
+
+pub count-all : (n : ℕ) (p : ℕ → Bool) → ((i : ℕ) → i < n → p i ≡ true) → count n p ≡ n
+count-all n p e = omega (arith, count-not n p, count-zero n (λ i. not (p i)) (λ i h. rw (e i h)))
 
 pub count-pos : (n : ℕ) (p : ℕ → Bool) → (1 ≤ count n p) ↔ ((i : ℕ) × (i < n) × (p i ≡ true))
 count-pos n p = (

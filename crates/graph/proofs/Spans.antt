@@ -1,7 +1,6 @@
 -- The test of Spans.antt agrees with the chains of Feasible.antt: between two different nodes there is a chain at x exactly if their span plus ε is below x.
 -- From a span to a chain: by induction on the nodes that chains may pass.
 -- From a chain to a span: each step has a span, and two spans that meet in a node that chains may pass make one, so the chain's steps make one.
--- Assumes nothing.
 use mathlib.Core.Path.{_≡_}
 use mathlib.Core.Logic.{_↔_, _≢_, _⊎_, inl, inr, ⊎-elim, Iff·trans, Iff·symm, Iff·not, Dec·of-iff}
 use mathlib.Core.Bool.{true}

@@ -1,6 +1,7 @@
--- The result block: its length, and where header, records, inferred rows and links stand in it, whatever is behind it.
--- Assumes nothing.
+-- The result block: its length, where header, records, inferred rows and links stand in it, whatever is behind it, and that it is
+-- bytes where its numbers fit 16 bits.
 use mathlib.Core.Path.{_≡_, refl, _∙_}
+use mathlib.Core.Logic.{inl, inr, ⊎-elim}
 use mathlib.Core.Bool.{Bool, true, false, cond, not}
 use mathlib.Core.List.{List, [], _∷_, _++_, append-assoc, append-nil}
 use Prim.Native.Nat.{ℕ, zero, suc, _+_, _*_, _-_, _≤_, _<_}
@@ -9,7 +10,7 @@ use native.Mathlib.Omega.{arith}
 use lib.ListN.{length, getD, take, drop, length-append, List·getD-append}
 use lib.Seq.{drop-at, getD-append-add, take-append-seam}
 use Rattle.graph.specs.Below.{gather, count}
-use Rattle.graph.proofs.Below.{In, in-at, last-or, sum-add, count-not, count-zero}
+use Rattle.graph.proofs.Below.{In, in-at, in-append, in-gather, last-or, sum-add, count-zero, count-all}
 use Rattle.rules.specs.Job.{Bytes, word}
 use Rattle.rules.specs.Types.{Node, inferred, nodeAt}
 use Rattle.rules.specs.Links.{linkAt}
@@ -31,6 +32,18 @@ word-words (x ∷ xs) zero = omega arith
 word-words (x ∷ xs) (suc k) =
     let e : 2 * suc k ≡ suc (suc (2 * k)) = omega arith in
     let g : suc (suc (2 * k)) + 1 ≡ suc (suc (2 * k + 1)) = omega arith in rw (e, g) (word-words xs k)
+
+-- Numbers that fit 16 bits are written as bytes.
+abbrev pub Fits16 : List ℕ → Type 0
+Fits16 [] = Unit {0}
+Fits16 (x ∷ xs) = (x < 65536) × Fits16 xs
+
+pub words-bytes : (xs : List ℕ) → Fits16 xs → (y : ℕ) → In y (words xs) → y < 256
+unfolding words
+words-bytes [] f y h = absurd h
+words-bytes (x ∷ xs) f y (inl e) = omega arith
+words-bytes (x ∷ xs) f y (inr (inl e)) = omega arith
+words-bytes (x ∷ xs) f y (inr (inr h)) = words-bytes xs (f .1) y h
 
 module _ {A : Type 0} where
   -- xs stands in b from a place on.
@@ -225,9 +238,6 @@ module _ (m : ℕ) (net : Network) (b : Bytes) (front : Stands b 0 (block m net)
         stands-three (linkNumbers net k) refl
         (stands-in s (stands-gather linkSize (length (net .links)) (linkBytes net) (link-size net) k h) (omega arith))
 
-count-all : (n : ℕ) (p : ℕ → Bool) → ((i : ℕ) → i < n → p i ≡ true) → count n p ≡ n
-count-all n p e = omega (arith, count-not n p, count-zero n (λ i. not (p i)) (λ i h. rw (e i h)))
-
 -- Of sampled types with inferred ones behind them, the former are counted.
 pub sampledIn-append : (xs ys : List Node) → ((x : Node) → In x xs → inferred (x .origin) ≡ false) → ((y : Node) → In y ys → inferred (y .origin) ≡ true) →
     sampledIn (xs ++ ys) ≡ length xs
@@ -238,3 +248,27 @@ sampledIn-append xs ys f g =
     let rear : count (length ys) (λ i. p (length xs + i)) ≡ 0 =
     count-zero (length ys) (λ i. p (length xs + i)) (λ i h. rw (getD-append-add xs ys i none, g _ (in-at ys i none h))) in
     rw length-append (omega (arith, sum-add (length xs) (length ys) (λ k. cond (p k) 1 0)))
+
+-- ── Bytes ──
+
+-- Every number of the block fits 16 bits, and every state of an inferred row a byte.
+pub record Fits (m : ℕ) (net : Network) : Type 0 where
+  pub header-fits : Fits16 (headerOf m net)
+  pub record-fits : (k : ℕ) → k < typeCount net → Fits16 (recordNumbers net k)
+  pub states-fit : (i : ℕ) → i < typeCount net - sampledCount net → (x : ℕ) → In x (inferredRow net i) → x < 256
+  pub link-fits : (k : ℕ) → k < length (net .links) → Fits16 (linkNumbers net k)
+
+-- Then the block is bytes.
+pub block-bytes : (m : ℕ) (net : Network) → Fits m net → (x : ℕ) → In x (block m net) → x < 256
+block-bytes m net f x h =
+    ⊎-elim
+    (λ p. ⊎-elim
+    (λ q. ⊎-elim (words-bytes (headerOf m net) (f .header-fits) x) (each (typeCount net) (recordNumbers net) (f .record-fits))
+    (in-append x (head m net) (records net) .0 q))
+    (λ r. let (i, l, g) = in-gather x _ (inferredRow net) .0 r in f .states-fit i l x g)
+    (in-append x (head m net ++ records net) (inferredRows net) .0 p))
+    (each (length (net .links)) (linkNumbers net) (f .link-fits))
+    (in-append x (head m net ++ records net ++ inferredRows net) (links net) .0 (rw block-is at h))
+  where
+    each : (n : ℕ) (g : ℕ → List ℕ) → ((k : ℕ) → k < n → Fits16 (g k)) → In x (gather n (λ k. words (g k))) → x < 256
+    each n g fits h = let (k, l, i) = in-gather x n (λ k. words (g k)) .0 h in words-bytes (g k) (fits k l) x i

@@ -1,5 +1,4 @@
 -- Numbers in decimals: the digits never run out, and reading them gives the number back.
--- Assumes nothing.
 use mathlib.Core.Path.{_≡_}
 use mathlib.Core.Logic.{⊎-elim}
 use mathlib.Core.List.{[], _∷_, _++_, foldl, foldl-append}

@@ -1,6 +1,5 @@
--- Distance: it is the same both ways, 0 from a row to itself, and at most the widest weight for each character.
--- Assumes nothing.
-use mathlib.Core.Path.{_≡_, refl, sym, ap}
+-- Distance: it is the same both ways, 0 from a row to itself, and at most the widest weight for each character, so that it fits 16 bits.
+use mathlib.Core.Path.{_≡_, refl, sym}
 use mathlib.Core.Bool.{Bool, true, false, cond}
 use mathlib.Core.List.{List}
 use Prim.Native.Nat.{ℕ, _*_, _≤_, _<_}
@@ -9,9 +8,10 @@ use lib.Dec.{eqb}
 use lib.ListN.{length, getD}
 use borrow.Author.Tests.{eqb-true, eqb-false, eq-eqb, ne-eqb}
 use Rattle.graph.proofs.Below.{sum-ext, sum-zero, sum-bound}
-use Rattle.rules.specs.Job.{Row}
+use Rattle.rules.specs.Job.{Bytes, Row, weights}
 use Rattle.rules.specs.Types.{rowAt}
-use Rattle.rules.specs.Distance.{difference, distance, apart}
+use Rattle.rules.specs.Distance.{distance, apart}
+use Rattle.rules.proofs.Job.{Passed, length-weights, weight-within}
 
 eqb-sym : (a b : ℕ) → eqb a b ≡ eqb b a
 eqb-sym a b = go (eqb a b) refl
@@ -40,3 +40,12 @@ pub distance-bound : (ws : List ℕ) (u v : Row) (k : ℕ) → ((c : ℕ) → c 
 unfolding distance
 distance-bound ws u v k b =
     sum-bound (length ws) k _ (λ c h. difference-le (eqb (getD u c 0) (getD v c 0)) (getD ws c 0) k (b c h))
+
+-- Of a job that passes its checks: at most 64 characters of a weight of at most 1,000 each.
+pub distance-fits : (job : Bytes) → Passed job → (u v : Row) → distance (weights job) u v ≤ 64000
+distance-fits job p u v = omega (
+  arith,
+  distance-bound (weights job) u v 1000 (λ c h. weight-within job p c (rw length-weights at h) .at-most),
+  length-weights job,
+  p .width-within .at-most,
+)

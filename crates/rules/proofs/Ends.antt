@@ -1,16 +1,15 @@
 -- The fuel never runs out: purge and phaseOne do what Purge.antt's Purges and Run.antt's PhaseOne say, and more times or rounds
 -- change nothing.
--- Assumes nothing.
 use mathlib.Core.Path.{_≡_, refl, sym, ap, _∙_}
-use mathlib.Core.Logic.{_↔_, _≢_}
+use mathlib.Core.Logic.{_≢_}
 use mathlib.Core.Bool.{Bool, true, false, cond, _&&_, false≢true}
-use mathlib.Core.List.{List, [], _∷_}
+use mathlib.Core.List.{List, []}
 use Prim.Native.Nat.{ℕ, zero, suc, _+_, _≤_, _<_}
 use native.Mathlib.Omega.{arith}
 use lib.Dec.{leb, ltb, eqb}
 use lib.ListN.{length}
 use borrow.Author.Tests.{ltb-true, ltb-false, eqb-true, eqb-false, leb-false}
-use Rattle.graph.proofs.Below.{some-false}
+use Rattle.graph.proofs.Below.{some-false, empty}
 use Rattle.rules.specs.Job.{Row}
 use Rattle.rules.specs.Types.{inferred, nodeAt}
 use Rattle.rules.specs.Links.{linkCount}
@@ -70,10 +69,6 @@ purged-links ls run f i h t =
 pub purge-links : (ws : List ℕ) (e : ℕ) (run : Run) → let purged = purge ws e run in
     (i : ℕ) → i < length (purged .current) → inferred (nodeAt (purged .current) i .origin) ≡ true → 3 ≤ linkCount (linksOf ws e purged) i
 purge-links ws e run = purged-links (linksOf ws e (purge ws e run)) (purge ws e run) (purge-ends ws e run)
-
-empty : {A : Type 0} (xs : List A) → (length xs ≡ 0) ↔ (xs ≡ [])
-empty [] = (λ e. refl, λ e. refl)
-empty (x ∷ xs) = (λ e. absurd (omega arith), λ e. ap length e)
 
 -- As many rounds as bring the types made above 128 are enough: each makes a type.
 pub phase-in : (rounds : ℕ) (ws : List ℕ) (e : ℕ) (run : Run) → length (made run) ≤ 128 → 128 < length (made run) + rounds →

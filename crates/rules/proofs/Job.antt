@@ -1,6 +1,5 @@
--- The rows of a job, and what is known of a job that passes the refusals 2 to 7: every test's negation, by name.
--- Assumes nothing.
-use mathlib.Core.Path.{_≡_, refl, sym, ap, _∙_}
+-- The rows, weights and states of a job, and what is known of a job that passes the refusals 2 to 7: every test's negation, by name.
+use mathlib.Core.Path.{_≡_, refl, sym, _∙_}
 use mathlib.Core.Logic.{_≢_, inl, inr}
 use mathlib.Core.Bool.{Bool, true, false, not, true≢false}
 use mathlib.Core.List.{[]}
@@ -14,7 +13,7 @@ use borrow.Author.Tests.{ltb-false, eqb-true, not-false}
 use Rattle.graph.specs.Below.{table, first}
 use Rattle.graph.proofs.Below.{is-false, or-true, first-before, length-table, getD-table}
 use Rattle.rules.specs.Answers.{number, when_refuse_else_}
-use Rattle.rules.specs.Job.{Bytes, word, rows, width, weightsOffset, statesOffset, wholeLength, weightAt, stateAt, outside, badWeight, badState, checked, jobRow, jobRows}
+use Rattle.rules.specs.Job.{Bytes, word, rows, width, weightsOffset, statesOffset, wholeLength, weightAt, weights, stateAt, outside, badWeight, badState, checked, jobRow, jobRows}
 use Rattle.rules.specs.Types.{rowAt}
 use Rattle.rules.specs.declared.Answer.{Answer}
 use Rattle.rules.specs.declared.Answer.the-variants.{Head, Rows, Width, Layout, Weight, State}
@@ -103,3 +102,22 @@ unfolding jobRow
 row-part job k p h =
     let e : suc k * width job ≤ rows job * width job = mul-le-mul-right (width job) h in
     part-table job (statesOffset job + k * width job) (width job) (omega (arith, p .whole, suc-mul k (width job))) ∙ simp add-assoc
+
+-- ── Weights and states ──
+
+pub length-weights : (job : Bytes) → length (weights job) ≡ width job
+unfolding weights
+length-weights job = length-table _ _
+
+pub weight-within : (job : Bytes) → Passed job → (c : ℕ) → c < width job → Within 1 1000 (getD (weights job) c 0)
+unfolding weights
+weight-within job p c h = rw (getD-table (width job) (weightAt job) c 0 h) (p .weights-within c h)
+
+-- Every state of every row.
+pub state-within : (job : Bytes) → Passed job → (k c : ℕ) → k < length (jobRows job) → c < width job → Within 33 126 (getD (rowAt (jobRows job) k) c 0)
+unfolding jobRow
+state-within job p k c h l =
+    let b : k < rows job = rw length-rows at h in
+    let e : suc k * width job ≤ rows job * width job = mul-le-mul-right (width job) b in
+    rw (row-at job k b, getD-table (width job) (λ c. stateAt job (k * width job + c)) c 0 l)
+    (p .states-within (k * width job + c) (omega (arith, suc-mul k (width job))))

@@ -1,5 +1,4 @@
 -- What every step of a run keeps, the run keeps; and what a purge and a round do to the number of types.
--- Assumes nothing.
 use mathlib.Core.Path.{_≡_, refl, _∙_}
 use mathlib.Core.Logic.{_≢_}
 use mathlib.Core.Bool.{true, not}

@@ -1,24 +1,23 @@
 -- Laws of Round.antt: the offers of a run, their least cost, and the rows that a round adds.
--- Assumes nothing.
 use mathlib.Core.Path.{_≡_, refl, sym, ap, ap₂, _∙_}
 use mathlib.Core.Logic.{_↔_, _⊎_, inl, inr, ⊎-elim, ⊎-map, _≢_}
-use mathlib.Core.Bool.{true, false, not}
+use mathlib.Core.Bool.{Bool, true, false, cond, not}
 use mathlib.Core.List.{List, [], _∷_}
 use Prim.Native.Nat.{ℕ, zero, suc, _+_, _≤_, _<_, min, Ordering, Ordering·lt, Ordering·eq, Ordering·gt}
 use native.Mathlib.Omega.{arith}
 use native.Mathlib.Decide.{decLe}
-use lib.Dec.{leb}
-use lib.ListN.{length}
+use lib.Dec.{leb, eqb}
+use lib.ListN.{length, getD}
 use borrow.Author.Tests.{leb-true, le-leb, not-true}
 use Rattle.graph.specs.Below.{gather, given, only}
-use Rattle.graph.proofs.Below.{In, in-gather, in-given, in-only, in-at, length-table}
+use Rattle.graph.proofs.Below.{In, in-gather, in-given, in-only, length-table, getD-table, in-kept}
 use Rattle.rules.specs.Job.{Row}
 use Rattle.rules.specs.Types.{rowAt, rowsOf, sameRow, among}
 use Rattle.rules.specs.Purge.{Run, linksOf}
-use Rattle.rules.specs.Median.{triplet, median, medians, connection}
+use Rattle.rules.specs.Median.{triplet, common, median, medians, connection}
 use Rattle.rules.specs.Round.{Offer, made, offersOf, offers, leastFrom, leastCost, offerAt, costOf, compareRows, insert, ascending, added}
 use Rattle.rules.proofs.Ascending.{Ascending, ascending-at}
-use Rattle.rules.proofs.Rows.{same-row, in-kept, mirrored, compare-rows-eq, compare-rows-trans, compare-rows-mirrored, compare-rows-irrefl}
+use Rattle.rules.proofs.Rows.{same-row, mirrored, compare-rows-eq, compare-rows-trans, compare-rows-mirrored, compare-rows-irrefl}
 
 least-from : (x : ℕ) (os : List Offer) → leastFrom x os ≤ x
 unfolding leastFrom
@@ -253,18 +252,43 @@ in-offers ws e run o =
 pub offer-unmade : (ws : List ℕ) (e : ℕ) (run : Run) (o : Offer) → In o (offers ws e run) → among (made run) (o .row) ≡ false
 offer-unmade ws e run o h = in-offers ws e run o .0 h .median .unknown
 
--- The median vectors of rows of one width have that width.
-medians-width : (m : ℕ) (u v w : Row) → length u ≡ m → length v ≡ m → length w ≡ m → (k : ℕ) → k < 3 → length (rowAt (medians u v w) k) ≡ m
+-- A state of a median vector is one that the rows have there.
+median-one : (P : ℕ → Type 0) (c : ℕ) (x u v w : Row) → c < length x → P (getD x c 0) → P (getD u c 0) → P (getD v c 0) → P (getD (median x u v w) c 0)
 unfolding median
-medians-width m u v w a b c zero h = length-table _ _ ∙ a
-medians-width m u v w a b c (suc zero) h = length-table _ _ ∙ b
-medians-width m u v w a b c (suc (suc zero)) h = length-table _ _ ∙ c
-medians-width m u v w a b c (suc (suc (suc k))) h = absurd (omega arith)
+median-one P c x u v w h p q r =
+    rw (getD-table (length x) (λ c. common (getD x c 0) (getD u c 0) (getD v c 0) (getD w c 0)) c 0 h)
+    (go (eqb (getD u c 0) (getD v c 0)) (eqb (getD u c 0) (getD w c 0)) (eqb (getD v c 0) (getD w c 0)))
+  where
+    go : (uv uw vw : Bool) → P (cond uv (getD u c 0) (cond uw (getD u c 0) (cond vw (getD v c 0) (getD x c 0))))
+    go true uw vw = q
+    go false true vw = q
+    go false false true = r
+    go false false false = p
 
-pub offer-width : (ws : List ℕ) (e : ℕ) (run : Run) (m : ℕ) →
-    ((i : ℕ) → i < length (rowsOf (run .current)) → length (rowAt (rowsOf (run .current)) i) ≡ m) →
-    (o : Offer) → In o (offers ws e run) → length (o .row) ≡ m
-offer-width ws e run m each o h =
+-- An offered row is a median vector of current rows, given by their numbers: what all of those have, it has.
+offer-median : (R : Row → Type 0) (ws : List ℕ) (e : ℕ) (run : Run) → let rs = rowsOf (run .current) in
+    ((x u v w : ℕ) → x < length rs → u < length rs → v < length rs → w < length rs → R (median (rowAt rs x) (rowAt rs u) (rowAt rs v) (rowAt rs w))) →
+    (o : Offer) → In o (offers ws e run) → R (o .row)
+offer-median R ws e run each o h =
     let r = in-offers ws e run o .0 h in
-    ap length (r .median .row-is) ∙
-    medians-width m _ _ _ (each (r .u) (r .u-current)) (each (r .v) (r .v-current)) (each (r .w) (r .w-current)) _ (r .median .below)
+    let at : (x : ℕ) → x < length (rowsOf (run .current)) → _ = λ x a. each x (r .u) (r .v) (r .w) a (r .u-current) (r .v-current) (r .w-current) in
+    rw (r .median .row-is)
+    (which _ _ _ (at (r .u) (r .u-current)) (at (r .v) (r .v-current)) (at (r .w) (r .w-current)) (r .median .number) (r .median .below))
+  where
+    which : (u v w : Row) → R (median u u v w) → R (median v u v w) → R (median w u v w) → (k : ℕ) → k < 3 → R (rowAt (medians u v w) k)
+    which u v w a b c zero h = a
+    which u v w a b c (suc zero) h = b
+    which u v w a b c (suc (suc zero)) h = c
+    which u v w a b c (suc (suc (suc k))) h = absurd (omega arith)
+
+-- Offered rows have the width of the current ones, and in each character only states that current rows have there.
+module _ (ws : List ℕ) (e : ℕ) (run : Run) (m : ℕ)
+    (each : (i : ℕ) → i < length (rowsOf (run .current)) → length (rowAt (rowsOf (run .current)) i) ≡ m) where
+  pub offer-width : (o : Offer) → In o (offers ws e run) → length (o .row) ≡ m
+  unfolding median
+  offer-width = offer-median (λ r. length r ≡ m) ws e run (λ x u v w a b c d. length-table _ _ ∙ each x a)
+
+  pub offer-states : (P : ℕ → Type 0) (c : ℕ) → c < m → ((i : ℕ) → i < length (rowsOf (run .current)) → P (getD (rowAt (rowsOf (run .current)) i) c 0)) →
+      (o : Offer) → In o (offers ws e run) → P (getD (o .row) c 0)
+  offer-states P c l has = offer-median (λ r. P (getD r c 0)) ws e run
+      (λ x u v w a b f g. median-one P c _ _ _ _ (rw (each x a) l) (has x a) (has u b) (has v f))

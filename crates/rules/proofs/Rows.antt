@@ -1,16 +1,14 @@
 -- Laws of the tests on rows: sameRow and among of Types.antt, compareRows of Round.antt.
--- Assumes nothing.
 use mathlib.Core.Path.{_≡_, refl, sym, ap, ap₂, _∙_}
 use mathlib.Core.Logic.{_↔_, _⊎_, inl, inr, ⊎-elim, ⊎-map, _≢_}
-use mathlib.Core.Bool.{Bool, true, and-eq-true-iff, false≢true}
+use mathlib.Core.Bool.{true, and-eq-true-iff, false≢true}
 use mathlib.Core.List.{List, [], _∷_}
 use Prim.Native.Nat.{ℕ, zero, suc, _<_, Ordering, Ordering·lt, Ordering·eq, Ordering·gt, compare, compare·zero-zero, compare·zero-suc, compare·suc-zero, compare·suc-suc}
 use native.Mathlib.Omega.{arith}
 use lib.Dec.{eqb}
-use lib.ListN.{length, getD}
+use lib.ListN.{length}
 use borrow.Author.Tests.{eqb-true, eqb-false, leb-true, leb-false, eq-eqb}
-use Rattle.graph.specs.Below.{gather, only}
-use Rattle.graph.proofs.Below.{In, in-at, in-place, in-gather, in-only, some-true}
+use Rattle.graph.proofs.Below.{In, in-at, in-place, some-true}
 use Rattle.rules.specs.Job.{Row}
 use Rattle.rules.specs.Types.{rowAt, sameRow, among}
 use Rattle.rules.specs.Round.{compareRows}
@@ -36,24 +34,6 @@ among-is xs x =
     let s = some-true (length xs) (λ i. sameRow (rowAt xs i) x) in (
       λ e. let (i, h, t) = s .0 e in rw (← same-equal (rowAt xs i) x t) (in-at xs i [] h),
       λ h. let (i, l, at) = in-place x xs h in s .1 (i, l, rw (at []) (same-self x)),
-    )
-
--- What holds of a list's element at each place holds of each that is in it, and the other way round.
-pub each-place : {A : Type 0} (P : A → Type 0) (xs : List A) (d : A) → ((i : ℕ) → i < length xs → P (getD xs i d)) ↔ ((x : A) → In x xs → P x)
-each-place P xs d = (
-  λ f x h. let (i, l, at) = in-place x xs h in rw (at d) at (f i l),
-  λ f i l. f _ (in-at xs i d l),
-)
-
--- What is kept of a list by a test on its elements.
-pub in-kept : {A B : Type 0} (p : A → Bool) (g : A → B) (xs : List A) (d : A) (y : B) →
-    In y (gather (length xs) (λ k. only (p (getD xs k d)) (g (getD xs k d)))) ↔ ((x : A) × In x xs × (p x ≡ true) × (y ≡ g x))
-in-kept {A} {B} p g xs d y =
-    let f : ℕ → List B = λ k. only (p (getD xs k d)) (g (getD xs k d)) in
-    let s = in-gather y (length xs) f in (
-      λ h. let (k, l, i) = s .0 h in let (t, e) = in-only y (p (getD xs k d)) (g (getD xs k d)) .0 i in (getD xs k d, in-at xs k d l, t, e),
-      λ r. let (k, l, at) = in-place (r .0) xs (r .1) in
-          s .1 (k, l, in-only y (p (getD xs k d)) (g (getD xs k d)) .1 (rw (at d) (r .2), r .3 ∙ ap g (sym (at d)))),
     )
 
 -- Numbers first: equal, less and the other way round.

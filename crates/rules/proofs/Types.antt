@@ -1,10 +1,9 @@
 -- Types: rows as tests compare them; first rows, their order and their number; sampled types, whose row counts sum to the rows.
 -- A list kept by a test (`kept`) has each number that passes at the place that says how many pass before it, and nothing else:
 -- so first rows are counted off.
--- Assumes nothing.
-use mathlib.Core.Path.{_≡_, refl, sym, ap, ap₂, _∙_}
+use mathlib.Core.Path.{_≡_, refl, sym, ap, _∙_}
 use mathlib.Core.Logic.{_↔_, _≢_}
-use mathlib.Core.Bool.{Bool, true, false, cond, not, and-eq-true-iff, false≢true}
+use mathlib.Core.Bool.{Bool, true, false, cond, not, false≢true}
 use mathlib.Core.List.{List, [], _∷_, map}
 use Prim.Native.Nat.{ℕ, zero, suc, _≤_, _<_}
 use native.Mathlib.Nat.{not-suc-le-zero}
@@ -12,48 +11,11 @@ use native.Mathlib.Omega.{arith}
 use native.Mathlib.Decide.{decLt}
 use lib.ListN.{length, getD, take, length-append, length-map, List·getD-append}
 use lib.Seq.{length-take-le, getD-take, getD-at}
-use borrow.Author.Tests.{eqb-true, eq-eqb, ltb-true, ltb-false, lt-ltb, not-true}
+use borrow.Author.Tests.{ltb-true, ltb-false, lt-ltb, not-true}
 use Rattle.graph.specs.Below.{gather, only, sum, count, first}
-use Rattle.graph.proofs.Below.{
-  last-or,
-  is-false,
-  In,
-  in-gather,
-  in-only,
-  in-at,
-  in-place,
-  in-map,
-  some-true,
-  some-false,
-  some-ext,
-  sum-ext,
-  sum-swap,
-  count-le,
-  count-ext,
-  count-one,
-  count-pos,
-  length-kept,
-  first-before,
-  first-hits,
-}
+use Rattle.graph.proofs.Below.{last-or, is-false, In, in-gather, in-only, in-at, in-map, some-false, some-ext, sum-ext, sum-swap, count-le, count-ext, count-one, count-pos, length-kept, first-before, first-hits}
 use Rattle.rules.specs.Job.{Row}
-use Rattle.rules.specs.Types.{
-  Node,
-  inferred,
-  rowCount,
-  rowAt,
-  nodeAt,
-  sameRow,
-  among,
-  isFirst,
-  firsts,
-  sampledAt,
-  sampled,
-  tooMany,
-  row129,
-}
-use Rattle.rules.specs.declared.Origin.{Origin}
-use Rattle.rules.specs.declared.Origin.the-variants.{Sampled, Inferred}
+use Rattle.rules.specs.Types.{Node, inferred, rowCount, rowAt, nodeAt, sameRow, isFirst, firsts, sampledAt, sampled, tooMany, row129}
 use Rattle.rules.proofs.Rows.{same-row}
 use Rattle.rules.proofs.Ascending.{Ascending, ascending-only, ascending-gather, ascending-at}
 

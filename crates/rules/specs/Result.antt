@@ -1,8 +1,8 @@
 -- Result block.
-use mathlib.Core.Bool.{Bool, not}
+use mathlib.Core.Bool.{not}
 use mathlib.Core.List.{List, [], _∷_, _++_}
 use Prim.Native.Nat.{ℕ, _+_, _*_, _-_, _/_, _%_}
-use lib.ListN.{length, getD}
+use lib.ListN.{length}
 use Rattle.graph.specs.Below.{gather, count}
 use Rattle.rules.specs.Job.{Bytes}
 use Rattle.rules.specs.Types.{Node, inferred, nodeAt}

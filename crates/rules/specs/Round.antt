@@ -1,6 +1,6 @@
 -- Round.
-use mathlib.Core.Bool.{Bool, not}
-use mathlib.Core.List.{List, [], _∷_, _++_, map}
+use mathlib.Core.Bool.{not}
+use mathlib.Core.List.{List, [], _∷_, _++_}
 use Prim.Native.Nat.{ℕ, _+_, min, Ordering, Ordering·lt, Ordering·eq, Ordering·gt, compare}
 use lib.Dec.{leb}
 use lib.ListN.{length, getD}
