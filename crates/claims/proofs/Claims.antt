@@ -4,8 +4,8 @@ use mathlib.Core.Logic.{_↔_, _≢_}
 use mathlib.Core.List.{List}
 use Prim.Native.Nat.{ℕ, _≤_, _<_}
 use lib.Dec.{T}
-use lib.ListN.{length, replicate}
-use Rattle.graph.proofs.Below.{In}
+use lib.ListN.{length, getD, replicate}
+use Rattle.graph.proofs.Below.{in-at}
 use Rattle.rules.specs.Answers.{number, used}
 use Rattle.rules.specs.Job.{Bytes, width, jobRows}
 use Rattle.rules.specs.Lent.{Lent}
@@ -58,8 +58,8 @@ module _ (lent : Lent) (job : Bytes) where
   pub result-length : length (resultAfter lent job) ≡ lent .result
   result-length = result.result-length lent job
 
-  pub result-bytes : (x : ℕ) → In x (resultAfter lent job) → x < 256
-  result-bytes = result.result-bytes lent job
+  pub result-bytes : (k : ℕ) → k < length (resultAfter lent job) → getD (resultAfter lent job) k 0 < 256
+  result-bytes k h = result.result-bytes lent job _ (in-at (resultAfter lent job) k 0 h)
 
   pub refused-zero : number (answer lent job) ≢ 0 → resultAfter lent job ≡ replicate (lent .result) 0
   refused-zero = result.refused-zero lent job

@@ -4,6 +4,7 @@ pub mod Ascending
 pub mod Types
 pub mod Distance
 pub mod Links
+pub mod Median
 pub mod Rounds
 pub mod Keeps
 pub mod Ends

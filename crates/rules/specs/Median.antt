@@ -31,6 +31,6 @@ median x u v w = table (length x) (λ c. common (getD x c 0) (getD u c 0) (getD 
 abbrev pub medians : Row → Row → Row → List Row
 medians u v w = median u u v w ∷ median v u v w ∷ median w u v w ∷ []
 
--- The connection cost of a vector is the sum of its distances to U, V and W.
+-- The connection cost of a vector is the sum of its distances to U, V and W, and is the same for all three (proofs/Median.antt).
 abbrev pub connection : List ℕ → Row → Row → Row → Row → ℕ
 connection ws x u v w = distance ws x u + distance ws x v + distance ws x w
