@@ -9,7 +9,7 @@ use Rattle.rules.specs.Job.{Bytes, Row, word, rows, width, epsilon, weightAt, w
 use Rattle.rules.specs.Lent.{Lent}
 use Rattle.rules.specs.Types.{rowAt, sampled}
 use Rattle.rules.specs.Purge.{Run}
-use Rattle.rules.specs.Run.{settled, full, start, PhaseOne, phaseTwo}
+use Rattle.rules.specs.Run.{Outcome, settled, full, start, PhaseOne, phaseTwo}
 use Rattle.rules.specs.declared.Answer.{Answer}
 use Rattle.rules.specs.declared.Answer.the-variants.{Done, Area, Head, Rows, Width, Layout, Weight, State, Types, Room, Split}
 use Rattle.claims.specs.Drawing.{JoinsAll}
@@ -38,7 +38,7 @@ pub record Type129 (rs : List Row) (p : ℕ) : Type 0 where
   pub before : length (sampled (take p rs)) ≡ 128
 
 -- Phase I as it happens for a job.
-abbrev pub Runs : Bytes → Rattle.rules.specs.Run.Outcome → Type 0
+abbrev pub Runs : Bytes → Outcome → Type 0
 Runs job end = PhaseOne (weights job) (epsilon job) (start (jobRows job)) end
 
 -- The table: given when.
