@@ -30,7 +30,7 @@ use Rattle.claims.specs.ReadBack.{readBack}
 use Rattle.claims.proofs.Found as network
 use Rattle.claims.proofs.Drawn as drawing
 use Rattle.claims.proofs.Refusals as refusals
-use Rattle.claims.proofs.Fits as result
+use Rattle.claims.proofs.Result as result
 
 -- ── The P cases ──
 

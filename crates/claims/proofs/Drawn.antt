@@ -7,31 +7,27 @@ use native.Mathlib.Omega.{arith}
 use lib.ListN.{length, length-map, length-append, List·getD-append}
 use lib.Seq.{getD-append-add}
 use Rattle.graph.specs.Below.{sum}
-use Rattle.graph.proofs.Below.{In, in-at, sum-add, sum-ext, sum-zero}
+use Rattle.graph.proofs.Below.{in-at, sum-add, sum-ext, sum-zero}
 use Rattle.rules.specs.Job.{Bytes, rows, width, weights, jobRows}
 use Rattle.rules.specs.Lent.{Lent}
-use Rattle.rules.specs.Types.{Node, inferred, rowCount, nodeAt, rowsOf, sampled}
+use Rattle.rules.specs.Types.{Node, InferredBy, inferred, rowCount, nodeAt, rowsOf, sampled}
 use Rattle.rules.specs.Links.{linkCount}
 use Rattle.rules.specs.Purge.{Run, linksOf, purge}
 use Rattle.rules.specs.Run.{Network, phaseTwo}
 use Rattle.rules.specs.Call.{found, verdict}
-use Rattle.rules.specs.declared.Origin.the-variants.{Inferred}
+use Rattle.rules.specs.declared.Origin.{Origin}
 use Rattle.rules.proofs.Job.{length-rows}
 use Rattle.rules.proofs.Types.{row-counts}
 use Rattle.rules.proofs.Links.{links-at, links-order}
 use Rattle.rules.proofs.Ends.{purge-links}
-use Rattle.rules.proofs.Sound.{InferredBy, Sound}
-use Rattle.claims.specs.Drawing as drawing
+use Rattle.rules.proofs.Sound.{Sound}
 use Rattle.claims.specs.Drawing.{Drawn}
 use Rattle.claims.proofs.Drawing.{listed-cheapest, network-joined}
 use Rattle.claims.proofs.Found.{found-is, found-sound}
 
--- An origin that is a round's, in words.
-by-round : (rounds : ℕ) (t : Node) → InferredBy rounds t → drawing.InferredBy rounds (t .origin)
-by-round rounds t i = rw (i .origin-is) (i .not-zero, i .not-later)
-
-inferred-round : (rounds : ℕ) (t : Node) → InferredBy rounds t → (inferred (t .origin) ≡ true) × (rowCount (t .origin) ≡ 0)
-inferred-round rounds t i = rw (i .origin-is) (refl, refl)
+-- An inferred type counts no rows.
+inferred-round : (rounds : ℕ) (o : Origin) → InferredBy rounds o → (inferred o ≡ true) × (rowCount o ≡ 0)
+inferred-round rounds o i = rw (i .origin-is) (refl, refl)
 
 module _ (job : Bytes) (run : Run) (sound : Sound (jobRows job) (width job) (purge (weights job) 0 run)) where
   abbrev ts : List Node
@@ -43,7 +39,7 @@ module _ (job : Bytes) (run : Run) (sound : Sound (jobRows job) (width job) (pur
   abbrev later : List Node
   later = sound .later
 
-  behind : (k : ℕ) → k < length later → InferredBy (purge (weights job) 0 run .rounds) (nodeAt later k)
+  behind : (k : ℕ) → k < length later → InferredBy (purge (weights job) 0 run .rounds) (nodeAt later k .origin)
   behind k h = sound .later-inferred _ (in-at later k _ h)
 
   behind-is : (k : ℕ) → nodeAt ts (length xs + k) ≡ nodeAt later k
@@ -72,7 +68,7 @@ module _ (job : Bytes) (run : Run) (sound : Sound (jobRows job) (width job) (pur
   drawn-network = record {
     inferred = later;
     kept = sound .current-is;
-    rounds = λ k h. by-round _ _ (behind k h);
+    rounds = behind;
     counted = counted;
     cheapest = listed-cheapest (weights job) ts;
     lower = λ k h. links-at (weights job) 0 (rowsOf ts) k h .rising;

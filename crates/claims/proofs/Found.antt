@@ -27,7 +27,6 @@ use Rattle.claims.specs.Refusals.{Runs}
 use Rattle.claims.proofs.Drawing.{never-split-network}
 
 pub record Found (lent : Lent) (job : Bytes) (net : Network) : Type 0 where
-  pub areas : areaShort lent ≡ false
   pub checks : number (checked job) ≡ 0
   pub few : length (sampled (jobRows job)) ≤ 128
   pub run : Run
@@ -45,7 +44,7 @@ passes-on a v {net} = go (eqb (number a) 0) refl
     go true e f = (eqb-true _ _ e, f)
     go false e f = absurd (differ f)
 
-unrefused : (t : Bool) (a : Answer) → number a ≢ 0 → number (when t refuse a else passed) ≡ 0 → t ≡ false
+pub unrefused : (t : Bool) (a : Answer) → number a ≢ 0 → number (when t refuse a else passed) ≡ 0 → t ≡ false
 unrefused true a h z = absurd (h z)
 unrefused false a h z = refl
 
@@ -63,7 +62,6 @@ found-is lent job net e =
     let few = few-sampled (jobRows job) (unrefused _ (Types (row129 (jobRows job))) (omega arith) (c .0)) in
     let s = settles (outcome job) (runs-outcome job few) (c .1) in
     record {
-      areas = unrefused (areaShort lent) Area (omega arith) (a .0);
       checks = b .0;
       few = few;
       run = s .0;

@@ -3,5 +3,5 @@ pub mod Found
 pub mod Drawn
 pub mod Refusals
 pub mod ReadBack
-pub mod Fits
+pub mod Result
 pub mod Claims

@@ -11,10 +11,10 @@ use lib.ListN.{length, getD, length-append, List·getD-append}
 use lib.Seq.{getD-append-add}
 use borrow.Author.Tests.{not-true, not-false, lt-ltb, le-ltb, le-leb, eq-eqb}
 use Rattle.graph.specs.Below.{table}
-use Rattle.graph.proofs.Below.{In, in-at, in-map, table-getD, table-ext, count-le}
+use Rattle.graph.proofs.Below.{In, in-at, table-getD, table-ext, count-le}
 use Rattle.rules.specs.Answers.{number}
 use Rattle.rules.specs.Job.{Bytes, word, rows, width, jobRow, jobRows, checked}
-use Rattle.rules.specs.Types.{Node, inferred, rowAt, nodeAt, sameRow, firsts, sampledAt, sampled}
+use Rattle.rules.specs.Types.{Node, inferred, rowAt, nodeAt, sameRow, sampledAt, sampled}
 use Rattle.rules.specs.Run.{Network}
 use Rattle.rules.specs.Links.{linkAt}
 use Rattle.rules.specs.Result.{recordsOffset, recordSize, rowsOffset, linksOffset, recordOf, block}
@@ -22,7 +22,7 @@ use Rattle.rules.specs.Lookup.{typesIn, sampledTypes, headerFits, placeIn, look
 use Rattle.rules.specs.declared.Origin.{Origin}
 use Rattle.rules.specs.declared.Origin.the-variants.{Sampled, Inferred}
 use Rattle.rules.proofs.Job.{Passed, passed-is, length-rows, row-at, row-part}
-use Rattle.rules.proofs.Types.{in-firsts, firsts-any, length-sampled}
+use Rattle.rules.proofs.Types.{in-sampled, firsts-any, length-sampled}
 use Rattle.rules.proofs.Lookup.{lookup-sampled, lookup-inferred}
 use Rattle.rules.proofs.Block.{Stands, stands-front, stands-length, stands-part, headerOf, recordNumbers, linkNumbers, Three, typeCount, sampledCount, inferredRow, Wide, length-block, header-word, record-words, row-stands, link-words, sampledIn-append}
 use Rattle.claims.specs.ReadBack.{readOrigin, readLink, readType, readBack}
@@ -48,11 +48,11 @@ pub record FromJob (job : Bytes) (x : Node) : Type 0 where
   pub row-is : x .row ≡ jobRow job first
 
 pub from-job : (job : Bytes) (x : Node) → In x (sampled (jobRows job)) → FromJob job x
-unfolding sampled sampledAt
+unfolding sampledAt
 from-job job x h =
     let rs = jobRows job in
-    let s = in-map x (sampledAt rs) (firsts rs) .0 h in
-    let l : s .0 < rows job = rw length-rows at (in-firsts rs (s .0) .0 (s .1) .0) in
+    let s = in-sampled rs x h in
+    let l : s .0 < rows job = rw length-rows at s .1 in
     record {
       count = _;
       first = s .0;

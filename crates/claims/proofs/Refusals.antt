@@ -3,28 +3,28 @@
 use mathlib.Core.Path.{_≡_, refl, sym, ap, _∙_}
 use mathlib.Core.Logic.{_⊎_, inl, inr, ⊎-elim, ⊎-map, _↔_, _≢_}
 use mathlib.Core.Bool.{Bool, true, false, not, cond, _||_, false≢true}
-use mathlib.Core.List.{List, [], _∷_, append-nil}
+use mathlib.Core.List.{List, [], _∷_}
 use Prim.Native.Nat.{ℕ, suc, _*_, _≤_, _<_}
 use native.Mathlib.Omega.{arith}
 use native.Mathlib.Decide.{ℕ-discrete, decLt}
 use lib.Dec.{ltb, eqb}
-use lib.ListN.{length, getD, length-map}
-use borrow.Author.Tests.{ltb-true, ltb-false, lt-ltb, eqb-true, eqb-false, not-true, eq-eqb, ne-eqb}
+use lib.ListN.{length, getD}
+use borrow.Author.Tests.{ltb-true, lt-ltb, eqb-true, eqb-false, eq-eqb, ne-eqb}
 use Rattle.graph.specs.Below.{first}
 use Rattle.graph.proofs.Below.{or-true, is-false, first-hits, first-before, first-is}
 use Rattle.rules.specs.Answers.{number, place, when_refuse_else_, passed}
-use Rattle.rules.specs.Job.{Bytes, weightsOffset, word, rows, width, weightAt, stateAt, outside, statesOffset, wholeLength, badWeight, badState, checked, Row, epsilon, weights, jobRows}
+use Rattle.rules.specs.Job.{Bytes, weightsOffset, word, rows, width, weightAt, stateAt, outside, statesOffset, wholeLength, badWeight, badState, checked, Row, weights, jobRows}
 use Rattle.rules.specs.Lent.{Lent, areaShort}
-use Rattle.rules.specs.Types.{firsts, tooMany, row129}
+use Rattle.rules.specs.Types.{sampled, tooMany, row129}
 use Rattle.rules.specs.Purge.{Run}
-use Rattle.rules.specs.Round.{made}
-use Rattle.rules.specs.Run.{Outcome, settled, full, start, phaseOne}
+use Rattle.rules.specs.Run.{Outcome, settled, full}
 use Rattle.rules.specs.Call.{Verdict, refused, answerTo, _then_, ended, outcome, verdict, answer}
 use Rattle.rules.specs.declared.Answer.{Answer}
 use Rattle.rules.specs.declared.Answer.the-variants.{Done, Area, Head, Rows, Width, Layout, Weight, State, Types, Room, Split}
-use Rattle.rules.proofs.Ends.{phase-one, phase-same}
-use Rattle.rules.proofs.Types.{is-first, Nth, too-many, too-many-at, length-sampled}
+use Rattle.rules.proofs.Ends.{phase-same}
+use Rattle.rules.proofs.Types.{is-first, Nth, too-many, too-many-at, length-sampled, few-sampled}
 use Rattle.claims.specs.Refusals.{FirstOf, Outside, WrongField, weights-offset, states-offset, whole-length, bytes-lent, Type129, Runs, Condition}
+use Rattle.claims.proofs.Found.{unrefused, runs-outcome}
 use Rattle.claims.proofs.Drawing.{network-joined, never-split-network}
 
 -- ── The table by its numbers ──
@@ -59,9 +59,6 @@ ltb-tests a b = (ltb-true a b, lt-ltb a b)
 
 zero-tests : (a : ℕ) → Tests (ltb a 1) (a ≡ 0)
 zero-tests a = (λ e. omega (arith, ltb-true a 1 e), λ e. lt-ltb a 1 (omega arith))
-
-differ-tests : (a b : ℕ) → Tests (not (eqb a b)) (a ≢ b)
-differ-tests a b = (λ e. eqb-false a b (not-true _ e), λ h. ap not (ne-eqb a b h))
 
 or-tests : {s t : Bool} {A B : Type 0} → Tests s A → Tests t B → Tests (s || t) (A ⊎ B)
 or-tests {s} {t} f g = let o = or-true s t in (λ e. ⊎-map (f .0) (g .0) (o .0 e), λ h. o .1 (⊎-map (f .1) (g .1) h))
@@ -223,21 +220,12 @@ module _ (lent : Lent) (job : Bytes) where
       is : Tests (tooMany rs) (Type129 rs (row129 rs))
       is = (λ e. type-nth _ .0 (too-many rs e), λ t. too-many-at rs _ (type-nth _ .1 t) .0)
 
-  -- Where TYPES is not given, the run starts with at most 128 types.
-  few : number types ≡ 0 → length (made (start rs)) ≤ 128
-  few = go (tooMany rs) refl
-    where
-      go : (t : Bool) → tooMany rs ≡ t → number (when t refuse Types (row129 rs) else passed) ≡ 0 → length (made (start rs)) ≤ 128
-      go true e z = absurd (let w : ⊥ = omega arith in w)
-      go false e z = rw (append-nil, length-map, length-sampled) (ltb-false 128 (length (firsts rs)) e)
-
   abbrev ws : List ℕ
   ws = weights job
 
   -- The run gives ROOM, or ends in a network, whose links always join all its types.
-  ran : length (made (start rs)) ≤ 128 → Right 9 11 (answerTo (width job) (ended ws (outcome job)))
-  unfolding outcome
-  ran h = go (phaseOne ws (epsilon job) (start rs)) (phase-one ws (epsilon job) (start rs) h)
+  ran : length (sampled rs) ≤ 128 → Right 9 11 (answerTo (width job) (ended ws (outcome job)))
+  ran h = go (outcome job) (runs-outcome job h)
     where
       differ : {run : Run} {p : ℕ} → settled run ≡ full p → ⊥
       differ e = let z : _≡_ {A = ℕ} 0 1 = cc in omega arith
@@ -253,7 +241,8 @@ module _ (lent : Lent) (job : Bytes) where
   right =
       follows 1 2 (width job) _ _ (omega arith) (omega arith) area
       (λ z. follows 2 8 (width job) _ _ (omega arith) (omega arith) checks
-      (λ z. follows 8 9 (width job) _ _ (omega arith) (omega arith) types-right (λ z. ran (few z))))
+      (λ z. follows 8 9 (width job) _ _ (omega arith) (omega arith) types-right
+      (λ z. ran (few-sampled rs (unrefused (tooMany rs) (Types (row129 rs)) (omega arith) z)))))
 
   -- ── What follows ──
 

@@ -9,13 +9,11 @@ use Rattle.graph.specs.Below.{sum}
 use Rattle.graph.specs.Walk.{Walk}
 use Rattle.graph.specs.Tree.{InCheapest}
 use Rattle.rules.specs.Job.{Bytes, rows, weights, jobRows}
-use Rattle.rules.specs.Types.{Node, rowCount, nodeAt, rowsOf, sampled}
+use Rattle.rules.specs.Types.{Node, InferredBy, rowCount, nodeAt, rowsOf, sampled}
 use Rattle.rules.specs.Distance.{apart}
 use Rattle.rules.specs.Links.{linkAt, Between, Before, linkCount}
 use Rattle.rules.specs.Run.{Network}
 use Rattle.rules.specs.declared.Link.{Link}
-use Rattle.rules.specs.declared.Origin.{Origin}
-use Rattle.rules.specs.declared.Origin.the-variants.{Sampled, Inferred}
 
 -- A link of the list lies between u and v.
 abbrev pub Listed : List Link → ℕ → ℕ → Type 0
@@ -24,11 +22,6 @@ Listed ls u v = (k : ℕ) × (k < length ls) × Between (linkAt ls k) u v
 -- The links join all kept types.
 abbrev pub JoinsAll : Network → Type 0
 JoinsAll net = (u v : ℕ) → u < length (net .types) → v < length (net .types) → Walk (Listed (net .links)) u v
-
--- A node is inferred, in one of the rounds counted.
-abbrev pub InferredBy : ℕ → Origin → Type 0
-InferredBy rounds (Sampled rows first) = ⊥
-InferredBy rounds (Inferred round) = (1 ≤ round) × (round ≤ rounds)
 
 -- What is drawn for a job. The kept types are numbered 0, 1, .. in the order of the list.
 pub record Drawn (job : Bytes) (net : Network) : Type 0 where

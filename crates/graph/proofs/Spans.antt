@@ -21,16 +21,6 @@ pub cell-grid : (n : ℕ) (f : ℕ → ℕ → ℕ) (a b : ℕ) → a < n → b 
 unfolding grid
 cell-grid n f a b ha hb = rw (getD-table n (λ c. table n (f c)) a [] ha, getD-table n (f a) b 0 hb)
 
--- From a node to itself the span is 0 where the distance is.
-self-by : (k n : ℕ) (d : ℕ → ℕ → ℕ) (a : ℕ) → a < n → d a a ≡ 0 → cell (spansBy k n d) a a ≡ 0
-unfolding spansBy passing
-self-by zero n d a h z = rw (cell-grid n d a a h h) z
-self-by (suc k) n d a h z = rw (cell-grid n _ a a h h) (omega (arith, self-by k n d a h z))
-
-pub span-self : (n : ℕ) (d : ℕ → ℕ → ℕ) (a : ℕ) → a < n → d a a ≡ 0 → cell (spans n d) a a ≡ 0
-unfolding spans
-span-self n = self-by n n
-
 min-max-below : (p q r ε x : ℕ) → (min p (max q r) + ε < x) ↔ (p + ε < x) ⊎ ((q + ε < x) × (r + ε < x))
 min-max-below p q r ε x = (
   λ h. elim (decLt (p + ε) x) [ yes l ↦ inl l | no f ↦ inr (omega arith) ],
@@ -104,3 +94,13 @@ module _ (n : ℕ) (d : ℕ → ℕ → ℕ) where
   -- The test says true exactly of the feasible links.
   pub feasible-is : (ε u v : ℕ) → u < n → v < n → u ≢ v → (feasible d (spans n d) ε u v ≡ true) ↔ Feasible n d ε u v
   feasible-is ε u v hu hv ne = Iff·trans (leb-not _ _) (Iff·not (Iff·symm (chain-spans ε (d u v) u v hu hv ne)))
+
+-- From a node to itself the span is 0 where the distance is.
+self-by : (k n : ℕ) (d : ℕ → ℕ → ℕ) (a : ℕ) → a < n → d a a ≡ 0 → cell (spansBy k n d) a a ≡ 0
+unfolding spansBy passing
+self-by zero n d a h z = rw (cell-grid n d a a h h) z
+self-by (suc k) n d a h z = rw (cell-grid n _ a a h h) (omega (arith, self-by k n d a h z))
+
+pub span-self : (n : ℕ) (d : ℕ → ℕ → ℕ) (a : ℕ) → a < n → d a a ≡ 0 → cell (spans n d) a a ≡ 0
+unfolding spans
+span-self n = self-by n n

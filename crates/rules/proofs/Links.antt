@@ -102,7 +102,7 @@ pairs-few n t lt = omega (arith, swapped, sum-plus n (λ i. count n (t i)) (λ i
     )
 
 -- A link between types of rs, lower number first, of their length and feasible.
-pub record Found (ws : List ℕ) (e : ℕ) (rs : List Row) (l : Link) : Type 0 where
+pub record LinkOf (ws : List ℕ) (e : ℕ) (rs : List Row) (l : Link) : Type 0 where
   pub rising : l .low < l .high
   pub within : l .high < length rs
   pub long : l .length ≡ apart ws rs (l .low) (l .high)
@@ -146,7 +146,7 @@ module _ (ws : List ℕ) (e : ℕ) (rs : List Row) where
   )
 
   -- The links are the feasible ones.
-  pub in-links : (l : Link) → In l (linksAt ws e rs) ↔ Found ws e rs l
+  pub in-links : (l : Link) → In l (linksAt ws e rs) ↔ LinkOf ws e rs l
   unfolding linksAt
   in-links l = (
     λ h. let s = in-gather l n up .0 h in
@@ -166,7 +166,7 @@ module _ (ws : List ℕ) (e : ℕ) (rs : List Row) where
         ),
   )
 
-  pub links-at : (k : ℕ) → k < length (linksAt ws e rs) → Found ws e rs (linkAt (linksAt ws e rs) k)
+  pub links-at : (k : ℕ) → k < length (linksAt ws e rs) → LinkOf ws e rs (linkAt (linksAt ws e rs) k)
   links-at k h = in-links _ .0 (in-link (linksAt ws e rs) k h)
 
   -- They ascend by lower, then higher number.
@@ -206,7 +206,7 @@ module _ (ws : List ℕ) (e : ℕ) (rs : List Row) where
         ],
       )
     where
-      ends : (l : Link) → Found ws e rs l → Between l i j → (i < n) × (j < n) × FeasibleLink ws e rs i j
+      ends : (l : Link) → LinkOf ws e rs l → Between l i j → (i < n) × (j < n) × FeasibleLink ws e rs i j
       ends l f (inl s) = (omega (arith, f .rising, f .within), omega (arith, f .within), rw (s .0, s .1) at (f .feasible-link))
       ends l f (inr s) =
           (omega (arith, f .within), omega (arith, f .rising, f .within), feasible-sym j i (rw (s .0, s .1) at (f .feasible-link)))

@@ -12,23 +12,16 @@ use lib.Seq.{getD-append-add}
 use Rattle.graph.specs.Below.{gather, only}
 use Rattle.graph.proofs.Below.{In, in-append, in-at, in-gather, in-only, in-map, gather-add, gather-ext, table-getD, each-place, gather-table, empty}
 use Rattle.rules.specs.Job.{Row}
-use Rattle.rules.specs.Types.{Node, inferred, rowAt, nodeAt, rowsOf, firsts, sampledAt, sampled}
+use Rattle.rules.specs.Types.{Node, InferredBy, inferred, rowAt, nodeAt, rowsOf, sampledAt, sampled}
 use Rattle.rules.specs.Purge.{Run, obsolete, purgeOnce, Purges, purge}
 use Rattle.rules.specs.Round.{made, offers}
 use Rattle.rules.specs.Run.{settled, start, fresh, grown, PhaseOne}
 use Rattle.rules.specs.declared.Link.{Link}
 use Rattle.rules.specs.declared.Origin.the-variants.{Sampled, Inferred}
-use Rattle.rules.proofs.Types.{in-firsts, sampled-sampled}
+use Rattle.rules.proofs.Types.{in-sampled, sampled-sampled}
 use Rattle.rules.proofs.Rounds.{added-offered, added-some, offer-width, offer-states}
 use Rattle.rules.proofs.Keeps.{purges-keeps, phase-keeps, made-count, made-once, made-grown}
 use Rattle.rules.proofs.Ends.{purges}
-
--- A node inferred in a round from the first to a given one.
-pub record InferredBy (rounds : ℕ) (t : Node) : Type 0 where
-  pub round : ℕ
-  pub origin-is : t .origin ≡ Inferred round
-  pub not-zero : 1 ≤ round
-  pub not-later : round ≤ rounds
 
 -- A property of the rows of nodes: of each number, and of each node.
 abbrev pub EachRow : (Row → Type 0) → List Node → Type 0
@@ -52,17 +45,12 @@ pub record Sound (rs : List Row) (m : ℕ) (run : Run) : Type 0 where
   -- the current types behind the sampled ones
   pub later : List Node
   pub current-is : run .current ≡ sampled rs ++ later
-  pub later-inferred : (t : Node) → In t later → InferredBy (run .rounds) t
+  pub later-inferred : (t : Node) → In t later → InferredBy (run .rounds) (t .origin)
   pub widths : EachRow (λ r. length r ≡ m) (run .current)
   pub states : EachRow (AllHeld rs m) (run .current)
   pub room : length (made run) ≤ 128
   -- each round made a type
   pub rounds-made : run .rounds ≤ length (made run)
-
--- A sampled type has the row of its number.
-in-sampled : (rs : List Row) (t : Node) → In t (sampled rs) → (k : ℕ) × (k < length rs) × (t ≡ sampledAt rs k)
-unfolding sampled
-in-sampled rs t h = let (k, i, e) = in-map t (sampledAt rs) (firsts rs) .0 h in (k, in-firsts rs k .0 i .0, e)
 
 rows-sampled : (R : Row → Type 0) (rs : List Row) → ((i : ℕ) → i < length rs → R (rowAt rs i)) → EachRow R (sampled rs)
 unfolding sampledAt
@@ -146,12 +134,12 @@ sound-grown rs m run xs each some room s = record {
   rounds-made = omega (arith, made-grown xs run, s .rounds-made);
 }
   where
-    older : (t : Node) → In t (s .later) → InferredBy (run .rounds + 1) t
+    older : (t : Node) → In t (s .later) → InferredBy (run .rounds + 1) (t .origin)
     older t h =
         let o = s .later-inferred t h in
         record { round = o .round; origin-is = o .origin-is; not-zero = o .not-zero; not-later = omega (arith, o .not-later) }
 
-    newer : (t : Node) → In t (map (new run) xs) → InferredBy (run .rounds + 1) t
+    newer : (t : Node) → In t (map (new run) xs) → InferredBy (run .rounds + 1) (t .origin)
     newer t h =
         let (x, i, e) = in-map t (new run) xs .0 h in
         record { round = run .rounds + 1; origin-is = ap (λ (u : Node). u .origin) e; not-zero = omega arith; not-later = omega arith }

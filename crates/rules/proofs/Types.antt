@@ -138,9 +138,14 @@ pub sampled-node : (rs : List Row) (k : ℕ) → k < length (sampled rs) → nod
 unfolding sampled
 sampled-node rs k h = getD-map (sampledAt rs) (firsts rs) k 0 _ (rw length-map at h)
 
+-- A sampled type has the row of its number, and is not inferred.
+pub in-sampled : (rs : List Row) (t : Node) → In t (sampled rs) → (k : ℕ) × (k < length rs) × (t ≡ sampledAt rs k)
+unfolding sampled
+in-sampled rs t h = let (k, i, e) = in-map t (sampledAt rs) (firsts rs) .0 h in (k, in-firsts rs k .0 i .0, e)
+
 pub sampled-sampled : (rs : List Row) (t : Node) → In t (sampled rs) → inferred (t .origin) ≡ false
-unfolding sampled sampledAt
-sampled-sampled rs t h = let s = in-map t (sampledAt rs) (firsts rs) .0 h in rw (s .2)
+unfolding sampledAt
+sampled-sampled rs t h = ap (λ (u : Node). inferred (u .origin)) (in-sampled rs t h .2)
 
 -- The first row of row i's type.
 module _ (rs : List Row) (i : ℕ) (h : i < length rs) where

@@ -1,7 +1,8 @@
 -- Types.
+use mathlib.Core.Path.{_≡_}
 use mathlib.Core.Bool.{Bool, true, false, not, _&&_}
 use mathlib.Core.List.{List, [], _∷_, map}
-use Prim.Native.Nat.{ℕ}
+use Prim.Native.Nat.{ℕ, _≤_}
 use lib.Dec.{eqb, ltb}
 use lib.ListN.{length, getD}
 use Rattle.graph.specs.Below.{gather, only, count, some}
@@ -21,6 +22,13 @@ inferred (Inferred round) = true
 abbrev pub rowCount : Origin → ℕ
 rowCount (Sampled rows first) = rows
 rowCount (Inferred round) = 0
+
+-- Inferred in one of so many rounds.
+pub record InferredBy (rounds : ℕ) (o : Origin) : Type 0 where
+  pub round : ℕ
+  pub origin-is : o ≡ Inferred round
+  pub not-zero : 1 ≤ round
+  pub not-later : round ≤ rounds
 
 -- The row and the node of a number.
 abbrev pub rowAt : List Row → ℕ → Row
