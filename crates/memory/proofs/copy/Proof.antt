@@ -1,0 +1,66 @@
+-- `memory::copy` meets its contract: so many bytes of s stand in their places.
+use mathlib.Core.Path.{_≡_, refl, sym, ap, _∙_}
+use mathlib.Core.List.{List}
+use Prim.Native.Nat.{ℕ, _+_, _-_, _≤_}
+use native.Mathlib.Omega.{arith}
+use lib.ListN.{length, length-set, take}
+use lib.Seq.{take-all}
+use Rattle.memory.specs.Placed.{placed}
+use Rattle.memory.proofs.Placed.{placed-none, taken-more}
+use Rattle.memory.proofs.copy.Statement.{statement}
+use Rattle.memory.proofs.copy.Tie as tie
+
+abbrev Inv-loop : tie.InvT-loop
+Inv-loop s b₀ at i₀ b i = (i ≤ length s) × (length b ≡ length b₀) × (b ≡ placed b₀ at (take i s))
+
+abbrev μ-loop : tie.MeasureT-loop
+μ-loop s b₀ at i₀ b i = length s - i
+
+loop-holds : tie.Need-loop-holds Inv-loop μ-loop
+loop-holds c = (omega arith, refl, placed-none _ _)
+
+shared-slice-read-b : tie.Need-shared-slice-read-b Inv-loop μ-loop
+shared-slice-read-b c = omega arith
+
+add-b : tie.Need-add-b Inv-loop μ-loop
+add-b c = omega arith
+
+slice-write-b : tie.Need-slice-write-b Inv-loop μ-loop
+slice-write-b c = omega arith
+
+add-i : tie.Need-add-i Inv-loop μ-loop
+add-i c = omega arith
+
+loop-less : tie.Need-loop-less Inv-loop μ-loop
+loop-less c = omega arith
+
+loop-again : tie.Need-loop-again Inv-loop μ-loop
+loop-again c =
+    let l = c .before .before .loop in
+    let a = c .before .before .before .args in
+    (omega arith, simp length-set (l .inv .1), taken-more (a .b .now) (a .s .now) (l .b) (a .at) (l .i) (omega arith) (omega arith) (l .inv .2))
+
+same-length : tie.Need-same-length Inv-loop μ-loop
+same-length c = omega arith
+
+returns : tie.Need-returns Inv-loop μ-loop
+returns c =
+    let l = c .before .loop in
+    let a = c .before .before .args in
+    l .inv .2 ∙ ap (placed (a .b .now) (a .at)) (take-all (l .i) (a .s .now) (omega arith))
+
+pub copy-spec : {M : Type 1} → statement M
+copy-spec =
+    tie.close
+    (tie.spec
+    Inv-loop
+    μ-loop
+    loop-holds
+    shared-slice-read-b
+    add-b
+    slice-write-b
+    add-i
+    loop-less
+    loop-again
+    same-length
+    returns)
