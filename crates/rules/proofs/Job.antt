@@ -39,7 +39,7 @@ not-refused true a next e h = absurd (h e)
 not-refused false a next e h = (refl, e)
 
 -- A number that is not outside the bounds is within them.
-within : (low high x : ℕ) → outside low high x ≡ false → Within low high x
+pub within : (low high x : ℕ) → outside low high x ≡ false → Within low high x
 within low high x e = record {
   at-least = ltb-false x low (is-false _ (λ l. true≢false (sym (or-true (ltb x low) (ltb high x) .1 (inl l)) ∙ e)));
   at-most = ltb-false high x (is-false _ (λ r. true≢false (sym (or-true (ltb x low) (ltb high x) .1 (inr r)) ∙ e)));
