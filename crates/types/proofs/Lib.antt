@@ -1,0 +1,4 @@
+pub mod State
+pub mod Prefix
+pub mod Entering
+pub mod Once
