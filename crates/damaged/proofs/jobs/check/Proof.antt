@@ -1,0 +1,21 @@
+-- `damaged::jobs::check` is safe: the bytes lent are as many as asked.
+use mathlib.Core.Path.{sym}
+use lib.Seq.{length-take-le}
+use borrow.Author.Needs.{needs}
+use Rattle.damaged.proofs.jobs.check.Statement.{statement}
+use Rattle.damaged.proofs.jobs.check.Tie as tie
+
+slice-aggregate-check : tie.Need-slice-aggregate-check
+slice-aggregate-check c = sym (length-take-le _ _ (c .before .before .pre))
+
+check-requires : tie.Need-check-requires
+check-requires c κs = search needs
+
+tell-requires : tie.Need-tell-requires
+tell-requires c κs = search needs
+
+returns : tie.Need-returns
+returns c = search needs
+
+pub check-spec : {M : Type 1} → statement M
+check-spec = tie.close (tie.spec slice-aggregate-check check-requires tell-requires returns)
