@@ -161,9 +161,21 @@ def part_e():
 
 
 def collapse(name, rows):
-    """Rows of two states, told apart by a number from 0 to 255; at most three of the types are printed."""
+    """Rows of two states, told apart by a number from 0 to 255."""
     job = built(len(rows), 2)
     job[16:] = bytes(b for r in rows for b in (65 + r % 16, 65 + r // 16))
+    say_types(name, job)
+
+
+def last_state(name):
+    """Three rows of 64 states, equal but for the last state of the last row."""
+    job = built(3, 64)
+    job[204:] = job[140:204] + job[140:203] + bytes([126])
+    say_types(name, job)
+
+
+def say_types(name, job):
+    """At most three of the types are printed."""
     assert refusal(job) == (0, 0)
     answer, types = sampled(job)
     say(name, answer)
@@ -181,6 +193,7 @@ def part_f():
     collapse("row 200 is the 129th type", [k % 128 if k < 200 else k for k in range(256)])
     collapse("3 equal rows", [0, 0, 0])
     collapse("A B A C B A", [0, 1, 0, 2, 1, 0])
+    last_state("3 rows, the last state differs")
 
 
 for part in part_a, part_b_c, part_d, part_e, part_f:

@@ -88,6 +88,17 @@ fn case(name: &[u8], rows: &[u8], n: usize)
     put_types(&job, 16 + 2 * n);
 }
 
+// Three rows of 64 states, equal but for the last state of the last row.
+fn last_state() {
+    put(b"3 rows, the last state differs");
+    let mut job = jobs::built(3, 64);
+    for i in 0..128 {
+        job[204 + i] = job[140 + i % 64];
+    }
+    job[331] = 126;
+    put_types(&job, 332);
+}
+
 pub fn cases() {
     case(b"128 different rows", &rows(128), 128);
     case(b"and the first again", &rows(129), 129);
@@ -95,4 +106,5 @@ pub fn cases() {
     case(b"row 200 is the 129th type", &rows(200), 256);
     case(b"3 equal rows", &[0, 0, 0], 3);
     case(b"A B A C B A", &[0, 1, 0, 2, 1, 0], 6);
+    last_state();
 }

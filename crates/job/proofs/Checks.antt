@@ -21,6 +21,7 @@ module _ {read field y : ℕ} (is : read ≡ field) where
   pub differ : (read ≡ y → ⊥) → eqb field y ≡ false
   differ h = ne-eqb _ _ (λ e. h (is ∙ e))
 
+-- A number within its bounds is not outside them.
 inside : (low high x : ℕ) → low ≤ x → x ≤ high → outside low high x ≡ false
 inside low high x l h = rw (le-ltb x low l, le-ltb high x h)
 

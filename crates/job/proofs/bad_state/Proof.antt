@@ -1,4 +1,4 @@
--- `job::bad_state` meets its contract: no state before the place is outside its bounds.
+-- `job::bad_state` meets its contract: the place counts the states that were passed, and none of them is outside its bounds.
 use mathlib.Core.Path.{_≡_, sym, _∙_}
 use mathlib.Core.Bool.{false}
 use Prim.Native.Nat.{ℕ, _+_, _*_, _-_, _≤_, _<_}
@@ -8,20 +8,24 @@ use lib.ListN.{getD}
 use mir.Facts.{fits-8-64}
 use borrow.Author.Count.{below-none, below-more}
 use Rattle.graph.proofs.Below.{first-is}
-use Rattle.rules.specs.Job.{outside, badState}
+use Rattle.rules.specs.Job.{Bytes, outside, badState}
 use Rattle.job.proofs.bad_state.Statement.{statement}
 use Rattle.job.proofs.bad_state.Tie as tie
 
+-- No state before the place is outside its bounds.
+abbrev Clear : Bytes → ℕ → ℕ → Type 0
+Clear job first place = (i : ℕ) → i < place → outside 33 126 (getD job (first + i) 0) ≡ false
+
 abbrev Inv-loop : tie.InvT-loop
 Inv-loop job n m first place₀ row column₀ place column =
-    (column ≤ m) × (place ≡ row * m + column) × (row * m + m ≤ n * m) × ((i : ℕ) → i < place → outside 33 126 (getD job (first + i) 0) ≡ false)
+    (column ≤ m) × (place ≡ row * m + column) × (row * m + m ≤ n * m) × Clear job first place
 
 abbrev μ-loop : tie.MeasureT-loop
 μ-loop job n m first place₀ row column₀ place column = m - column
 
 abbrev Inv-rows : tie.InvT-rows
 Inv-rows job n m first place₀ row₀ place row =
-    (row ≤ n) × (place ≡ row * m) × ((i : ℕ) → i < place → outside 33 126 (getD job (first + i) 0) ≡ false)
+    (row ≤ n) × (place ≡ row * m) × Clear job first place
 
 abbrev μ-rows : tie.MeasureT-rows
 μ-rows job n m first place₀ row₀ place row = n - row
