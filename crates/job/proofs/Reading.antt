@@ -1,5 +1,5 @@
 -- What a job that passed lets its readers count on: where weights and rows end, in the numbers that the code has at hand.
-use mathlib.Core.Path.{_≡_, sym, ap, _∙_}
+use mathlib.Core.Path.{_≡_}
 use Prim.Native.Nat.{ℕ, suc, _+_, _*_, _-_, _≤_, _<_}
 use native.Mathlib.Nat.{suc-mul, mul-le-mul-right}
 use native.Mathlib.Omega.{arith}
@@ -26,7 +26,7 @@ row-ends job m k e w h =
 pub first-row : (job : Bytes) (m : ℕ) → number (checked job) ≡ 0 → m ≡ width job → RowEnds job m 0
 first-row job m e w = row-ends job m 0 e w (passed-is job e .rows-within .at-least)
 
--- And it is the row of the rules.
+-- That part of the job is the row of the rules.
 pub row-is : (job : Bytes) (m k : ℕ) → number (checked job) ≡ 0 → m ≡ width job → k < rows job →
     let from = 12 + 2 * m + k * m in take (from + m - from) (drop from job) ≡ jobRow job k
 row-is job m k e w h =

@@ -2,7 +2,7 @@
 // rows. The job is only read.
 
 ghost use mathlib.Core.Path.{_≡_};
-ghost use Prim.Native.Nat.{ℕ, _+_, _*_, _≤_, _<_};
+ghost use Prim.Native.Nat.{_+_, _*_, _≤_, _<_};
 ghost use lib.ListN.{length};
 ghost use Rattle.rules.specs.Answers.{number};
 ghost use Rattle.rules.specs.Job.{rows, width, weights, jobRow, outside, badWeight, badState, checked};

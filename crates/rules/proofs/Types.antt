@@ -152,19 +152,19 @@ module _ (rs : List Row) (i : ℕ) (h : i < length rs) where
   abbrev same : ℕ → Bool
   same j = sameRow (rowAt rs j) (rowAt rs i)
 
-  abbrev lead : ℕ
+  abbrev pub lead : ℕ
   lead = first (length rs) same
 
-  lead-le : lead ≤ i
+  pub lead-le : lead ≤ i
   lead-le = elim (decLt i lead) [
     | yes l ↦ absurd (false≢true (sym (first-before (length rs) same i l) ∙ same-row (rowAt rs i) (rowAt rs i) .1 refl))
     | no f ↦ omega arith
   ]
 
-  lead-same : rowAt rs lead ≡ rowAt rs i
+  pub lead-same : rowAt rs lead ≡ rowAt rs i
   lead-same = same-row _ _ .0 (first-hits (length rs) same (omega (arith, lead-le)))
 
-  lead-first : isFirst rs lead ≡ true
+  pub lead-first : isFirst rs lead ≡ true
   lead-first = is-first rs lead .1
       (λ j l e. false≢true (sym (first-before (length rs) same j l) ∙ same-row _ _ .1 (e ∙ lead-same)))
 

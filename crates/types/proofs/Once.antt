@@ -2,7 +2,7 @@
 use mathlib.Core.Path.{_≡_, sym, ap, _∙_}
 use lib.ListN.{length}
 use Rattle.graph.proofs.Below.{length-table}
-use Rattle.rules.specs.Job.{Bytes, width}
+use Rattle.rules.specs.Job.{Bytes}
 use Rattle.types.specs.State.{nodesIn}
 use Rattle.types.specs.Collapse.{Collapsed}
 use Rattle.types.specs.declared.Sample.{Sample}

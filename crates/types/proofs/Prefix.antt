@@ -1,7 +1,7 @@
 -- The sampled types of the first rows: which rows they have and count, what one row more makes of them, and which row is the 129th type.
 use mathlib.Core.Path.{_≡_, refl, sym, ap, ap₂, _∙_}
 use mathlib.Core.Logic.{_↔_, _≢_}
-use mathlib.Core.Bool.{Bool, true, false, cond, false≢true}
+use mathlib.Core.Bool.{Bool, true, false, cond}
 use mathlib.Core.List.{List, [], _∷_, _++_, map, map-append, append-nil}
 use Prim.Native.Nat.{ℕ, zero, suc, _+_, _≤_, _<_}
 use native.Mathlib.Nat.{add-zero}
@@ -10,13 +10,13 @@ use native.Mathlib.Decide.{decLt}
 use lib.ListN.{length, getD, take, set, length-take, List·getD-map, List·getD-eq-default}
 use lib.Seq.{take-length, length-take-le, getD-take}
 use borrow.Author.Tests.{le-ltb}
-use Rattle.graph.specs.Below.{gather, only, count, first}
-use Rattle.graph.proofs.Below.{in-place, is-false, gather-more, gather-ext, sum-more, count-le, count-ext, count-zero, first-before, first-hits}
+use Rattle.graph.specs.Below.{gather, only, count}
+use Rattle.graph.proofs.Below.{in-place, is-false, gather-more, gather-ext, sum-more, count-le, count-ext, count-zero}
 use Rattle.rules.specs.Job.{Row}
 use Rattle.rules.specs.Types.{Node, rowCount, rowAt, nodeAt, rowsOf, sameRow, isFirst, firsts, sampledAt, sampled, tooMany, row129}
 use Rattle.rules.specs.declared.Origin.the-variants.{Sampled}
 use Rattle.rules.proofs.Rows.{same-row}
-use Rattle.rules.proofs.Types.{is-first, first-same, first-take, in-firsts, firsts-nth, too-many-at, length-sampled, sampled-node}
+use Rattle.rules.proofs.Types.{is-first, first-same, first-take, lead, lead-le, lead-same, lead-first, in-firsts, firsts-nth, too-many-at, length-sampled, sampled-node}
 use Rattle.types.specs.State.{more}
 
 -- Two functions agree at each place of a list, or at each but one.
@@ -42,17 +42,13 @@ module _ (rs : List Row) where
   pub row-of-type : (i : ℕ) → i < length (sampled rs) → (k : ℕ) × (k < length rs) × (rowAt (rowsOf (sampled rs)) i ≡ rowAt rs k)
   row-of-type i h = (getD (firsts rs) i 0, firsts-nth rs i (rw length-sampled at h) .within, type-row i h)
 
-  -- Each row is the row of a type, whose first row is the first that equals it.
+  -- Each row is the row of a type.
   pub type-of-row : (k : ℕ) → k < length rs → (i : ℕ) × (i < length (sampled rs)) × (rowAt (rowsOf (sampled rs)) i ≡ rowAt rs k)
   type-of-row k h =
-      let t : ℕ → Bool = λ j. sameRow (rowAt rs j) (rowAt rs k) in
-      let lead = first (length rs) t in
-      let never : (j : ℕ) → j < lead → rowAt rs j ≢ rowAt rs k = λ j l e. false≢true (sym (first-before (length rs) t j l) ∙ same-row _ _ .1 e) in
-      let l : lead < length rs = elim (decLt k lead) [ yes l ↦ absurd (never k l refl) | no f ↦ omega arith ] in
-      let e = same-row _ _ .0 (first-hits (length rs) t l) in
-      let (i, b, at) = in-place lead (firsts rs) (in-firsts rs lead .1 (l, is-first rs lead .1 (λ j m q. never j m (q ∙ e)))) in
+      let l : lead rs k h < length rs = omega (arith, lead-le rs k h) in
+      let (i, b, at) = in-place (lead rs k h) (firsts rs) (in-firsts rs (lead rs k h) .1 (l, lead-first rs k h)) in
       let b′ : i < length (sampled rs) = rw length-sampled b in
-      (i, b′, type-row i b′ ∙ ap (rowAt rs) (at 0) ∙ e)
+      (i, b′, type-row i b′ ∙ ap (rowAt rs) (at 0) ∙ lead-same rs k h)
 
   -- No two types have one row.
   pub type-once : (i j : ℕ) → i < length (sampled rs) → j < length (sampled rs) →
@@ -115,23 +111,23 @@ node-of rs q k h l =
 -- One row more: row p.
 module _ (rs : List Row) (p : ℕ) (h : p < length rs) where
   -- The first row of type i: it is before row p, and the type has it.
-  abbrev lead : ℕ → ℕ
-  lead i = getD (firsts (take p rs)) i 0
+  abbrev firstOf : ℕ → ℕ
+  firstOf i = getD (firsts (take p rs)) i 0
 
   p-rows : length (take p rs) ≡ p
   p-rows = length-take-le p rs (omega arith)
 
-  lead-before : (i : ℕ) → i < length (known rs p) → lead i < p
-  lead-before i l = rw p-rows at (firsts-nth (take p rs) i (rw length-sampled at l) .within)
+  first-before-p : (i : ℕ) → i < length (known rs p) → firstOf i < p
+  first-before-p i l = rw p-rows at (firsts-nth (take p rs) i (rw length-sampled at l) .within)
 
-  lead-row : (i : ℕ) → i < length (known rs p) → rowAt (rowsOf (known rs p)) i ≡ rowAt rs (lead i)
-  lead-row i l = type-row (take p rs) i l ∙ getD-take p rs (lead i) [] (lead-before i l)
+  first-row-of : (i : ℕ) → i < length (known rs p) → rowAt (rowsOf (known rs p)) i ≡ rowAt rs (firstOf i)
+  first-row-of i l = type-row (take p rs) i l ∙ getD-take p rs (firstOf i) [] (first-before-p i l)
 
   -- A new row is the first of its type.
   pub new-first : New rs p ↔ (isFirst rs p ≡ true)
   new-first = (
     λ n. is-first rs p .1 (λ k l e. let (i, b, s) = type-of-row (take p rs) k (rw p-rows l) in n i b (s ∙ getD-take p rs k [] l ∙ e)),
-    λ e i l s. is-first rs p .0 e (lead i) (lead-before i l) (sym (lead-row i l) ∙ s),
+    λ e i l s. is-first rs p .0 e (firstOf i) (first-before-p i l) (sym (first-row-of i l) ∙ s),
   )
 
   -- With 128 types before it, it is the 129th.
@@ -154,19 +150,19 @@ module _ (rs : List Row) (p : ℕ) (h : p < length rs) where
       node-more p (omega arith) ∙ rw (none, same-row (rowAt rs p) (rowAt rs p) .1 refl)
 
   node-other : (i : ℕ) → i < length (known rs p) → rowAt (rowsOf (known rs p)) i ≢ rowAt rs p →
-      sampledAt (take (p + 1) rs) (lead i) ≡ sampledAt (take p rs) (lead i)
+      sampledAt (take (p + 1) rs) (firstOf i) ≡ sampledAt (take p rs) (firstOf i)
   node-other i l ne =
-      let b = lead-before i l in
-      let no-more = is-false (equals rs (lead i) p) (λ t. ne (lead-row i l ∙ sym (same-row _ _ .0 t))) in
-      node-more (lead i) (omega arith) ∙ rw (node-of rs p (lead i) (omega arith) b, no-more, add-zero)
+      let b = first-before-p i l in
+      let no-more = is-false (equals rs (firstOf i) p) (λ t. ne (first-row-of i l ∙ sym (same-row _ _ .0 t))) in
+      node-more (firstOf i) (omega arith) ∙ rw (node-of rs p (firstOf i) (omega arith) b, no-more, add-zero)
 
   node-same : (i : ℕ) → i < length (known rs p) → rowAt (rowsOf (known rs p)) i ≡ rowAt rs p →
-      sampledAt (take (p + 1) rs) (lead i) ≡ record { row = rowAt rs p; origin = more (nodeAt (known rs p) i .origin) }
+      sampledAt (take (p + 1) rs) (firstOf i) ≡ record { row = rowAt rs p; origin = more (nodeAt (known rs p) i .origin) }
   node-same i l e =
-      let b = lead-before i l in
-      let same = sym (lead-row i l) ∙ e in
-      let one-more = same-row (rowAt rs p) (rowAt rs (lead i)) .1 (sym same) in
-      node-more (lead i) (omega arith) ∙ rw (sampled-node (take p rs) i l, node-of rs p (lead i) (omega arith) b, one-more, same)
+      let b = first-before-p i l in
+      let same = sym (first-row-of i l) ∙ e in
+      let one-more = same-row (rowAt rs p) (rowAt rs (firstOf i)) .1 (sym same) in
+      node-more (firstOf i) (omega arith) ∙ rw (sampled-node (take p rs) i l, node-of rs p (firstOf i) (omega arith) b, one-more, same)
 
   -- A new row is one type more.
   pub new-row : New rs p → known rs (p + 1) ≡ known rs p ++ (record { row = rowAt rs p; origin = Sampled 1 p } ∷ [])

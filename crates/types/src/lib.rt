@@ -2,7 +2,7 @@
 // and its origin in an array of kinds. It reads the job and writes the state area.
 
 ghost use mathlib.Core.Path.{_≡_};
-ghost use Prim.Native.Nat.{ℕ, _+_, _*_, _≤_, _<_};
+ghost use Prim.Native.Nat.{_+_, _*_, _≤_, _<_};
 ghost use lib.ListN.{length, replicate};
 ghost use Rattle.graph.specs.Below.{first};
 ghost use Rattle.rules.specs.Answers.{number};

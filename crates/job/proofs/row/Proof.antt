@@ -1,6 +1,5 @@
 -- `job::row` meets its contract: the row is a part of the job, and lies within it.
-use mathlib.Core.Path.{_≡_, sym, ap, _∙_}
-use Prim.Native.Nat.{ℕ, _+_, _*_}
+use mathlib.Core.Path.{ap, _∙_}
 use native.Mathlib.Omega.{arith}
 use lib.ListN.{length-take}
 use borrow.Author.Needs.{needs}
@@ -9,9 +8,6 @@ use Rattle.memory.proofs.Placed.{placed-padded}
 use Rattle.job.proofs.Reading.{RowEnds, row-ends, row-is}
 use Rattle.job.proofs.row.Statement.{statement}
 use Rattle.job.proofs.row.Tie as tie
-use Rattle.job.proofs.row.Reads as reads
-use Rattle.job.proofs.row.Lts as lts
-use Rattle.memory.proofs.copy.Reads as copy-reads
 
 within : (c : tie.Start) → RowEnds (c .args .job .now) (c .args .m) (c .args .k)
 within c = row-ends (c .args .job .now) (c .args .m) (c .args .k) (c .pre .0) (c .pre .1) (c .pre .2)

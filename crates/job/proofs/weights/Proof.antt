@@ -1,19 +1,16 @@
 -- `job::weights` meets its contract: so many weights stand at the front, and zeros behind them.
 use mathlib.Core.Path.{_≡_, ap, _∙_}
-use mathlib.Core.List.{List}
 use Prim.Native.Nat.{ℕ, _-_, _≤_, _<_}
 use native.Mathlib.Omega.{arith}
-use lib.ListN.{length, set, replicate}
+use lib.ListN.{replicate}
 use Rattle.graph.specs.Below.{table}
 use Rattle.rules.specs.Job.{width, weightAt, weights}
 use Rattle.rules.specs.Call.{padded}
 use Rattle.memory.specs.Placed.{placed}
 use Rattle.memory.proofs.Placed.{placed-none, placed-padded, table-front}
-use Rattle.job.proofs.Reading.{RowEnds, row-ends, first-row}
+use Rattle.job.proofs.Reading.{RowEnds, first-row}
 use Rattle.job.proofs.weights.Statement.{statement}
 use Rattle.job.proofs.weights.Tie as tie
-use Rattle.job.proofs.weights.Reads as reads
-use Rattle.job.proofs.weights.Lts as lts
 
 abbrev Inv-loop : tie.InvT-loop
 Inv-loop job m w₀ c₀ w c = (c ≤ m) × (w ≡ placed (replicate 64 0) 0 (table c (weightAt job)))
