@@ -1,55 +1,10 @@
 """What the program `damaged` must print: jobs damaged in every way, and the answer to each as its number and place.
 
-It knows only document 01 (the job block, the table of refusals, the rule of types) and nothing of the code.
+The answers come from rules01.py, which was written from document 01 alone. The jobs and the layout of the lines are those of
+the program, said again here, since both must ask the same.
 Run it as:  python3 tests/damaged.py > crates/damaged/stdout
 """
-
-# Document 01.
-
-def word(block, at):
-    return block[at] + 256 * block[at + 1]
-
-
-def refusal(job):
-    """The refusals 2 to 7 in the order they are tried, as (number, place); (0, 0) where none is given."""
-    if len(job) < 12:
-        return 2, 0
-    n, m = word(job, 0), word(job, 2)
-    if n == 0 or n > 256:
-        return 3, 0
-    if m == 0 or m > 64:
-        return 4, 2
-    states_at, length = 12 + 2 * m, 12 + 2 * m + n * m
-    for at, right in (6, 12), (8, states_at), (10, length):
-        if word(job, at) != right:
-            return 5, at
-    if len(job) != length:
-        return 5, 12
-    for column in range(m):
-        if not 1 <= word(job, 12 + 2 * column) <= 1000:
-            return 6, column
-    for place in range(n * m):
-        if not 33 <= job[states_at + place] <= 126:
-            return 7, place
-    return 0, 0
-
-
-def sampled(job):
-    """Refusal 8 as (8, place), or (0, 0), with the types of a job that passed: (states, rows, first row), by first row."""
-    n, m = word(job, 0), word(job, 2)
-    states = job[12 + 2 * m:]
-    kinds = {}
-    for k in range(n):
-        row = bytes(states[k * m:k * m + m])
-        if row in kinds:
-            rows, first = kinds[row]
-            kinds[row] = rows + 1, first
-        elif len(kinds) == 128:
-            return (8, k), []
-        else:
-            kinds[row] = 1, k
-    return (0, 0), [(row, *kind) for row, kind in kinds.items()]
-
+from rules01 import refusal, sampled
 
 # The jobs of the program.
 
