@@ -99,7 +99,7 @@ fn last_state() {
     put_types(&job, 332);
 }
 
-pub fn cases() {
+pub(crate) fn cases() {
     case(b"128 different rows", &rows(128), 128);
     case(b"and the first again", &rows(129), 129);
     case(b"129 different rows", &rows(128), 129);

@@ -2,7 +2,9 @@
 
 ghost use mathlib.Core.Path.{_≡_};
 ghost use Prim.Native.Nat.{_+_, _*_, _≤_};
-ghost use lib.ListN.{length};
+ghost use lib.ListN.{length, take};
+ghost use Rattle.rules.specs.Answers.{number, place};
+ghost use Rattle.rules.specs.Job.{checked};
 ghost use Rattle.damaged.specs.Change.{Within};
 use crate::text;
 use memory::put_word;
@@ -24,7 +26,7 @@ fn word(n: usize, m: usize, k: usize) -> usize
 }
 
 // The job, with states from 33 to 126 and with room for 257 rows of 65. No byte behind it is zero.
-pub fn built(n: usize, m: usize) -> [u8; 16896]
+pub(crate) fn built(n: usize, m: usize) -> [u8; 16896]
     requires { ⌜ (12 + 2 * m + n * m ≤ 16896) × (n ≤ 257) ⌝ }
     ensures { λ r. ⌜ length r ≡ 16896 ⌝ }
 {
@@ -48,7 +50,7 @@ pub enum Part {
 pub struct Change(pub Part, pub usize);
 
 // Makes a change, and says how many bytes are lent then.
-pub fn make(change: Change, job: &mut [u8], lent: usize) -> usize
+pub(crate) fn make(change: Change, job: &mut [u8], lent: usize) -> usize
     requires { ⌜ Within (change .0) (change .1) × (length (now job) ≡ 16896) × (lent ≤ 16896) ⌝ }
     ensures { λ r. ⌜ r ≤ 16896 ⌝ }
 {
@@ -62,8 +64,10 @@ pub fn make(change: Change, job: &mut [u8], lent: usize) -> usize
     lent
 }
 
-pub fn check(job: &[u8], lent: usize) -> text::Told
+// What the first bytes of a job are answered.
+pub(crate) fn check(job: &[u8], lent: usize) -> text::Told
     requires { ⌜ lent ≤ length (now job) ⌝ }
+    ensures { λ r. ⌜ (r .0 ≡ number (checked (take lent (now (job .entry))))) × (r .1 ≡ place (checked (take lent (now (job .entry))))) ⌝ }
 {
     text::tell(job::check(&job[..lent]))
 }

@@ -53,7 +53,7 @@ fn pair(one: usize, other: usize) {
     answer(jobs::check(&job, lent));
 }
 
-pub fn pairs() {
+pub(crate) fn pairs() {
     for one in 0..11 {
         for other in one..11 {
             pair(one, other);

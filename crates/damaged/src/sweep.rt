@@ -28,7 +28,7 @@ fn sweep(name: &[u8], n: usize, m: usize, part: Part, first: usize, last: usize)
     run(name, start, last, told);
 }
 
-pub fn lengths() {
+pub(crate) fn lengths() {
     sweep(b"256 rows of 64, length", 256, 64, Part::Lent, 0, 16600);
     sweep(b"1 row of 1, length", 1, 1, Part::Lent, 0, 64);
     sweep(b"256 rows of 65, length", 256, 65, Part::Lent, 16782, 16782);
@@ -36,7 +36,7 @@ pub fn lengths() {
     sweep(b"257 rows of 65, length", 257, 65, Part::Lent, 16847, 16847);
 }
 
-pub fn words() {
+pub(crate) fn words() {
     sweep(b"rows", 3, 2, Part::Word(0), 0, 65535);
     sweep(b"width", 3, 2, Part::Word(2), 0, 65535);
     sweep(b"epsilon", 3, 2, Part::Word(4), 0, 65535);
@@ -47,7 +47,7 @@ pub fn words() {
     sweep(b"weight 1", 3, 2, Part::Word(14), 0, 65535);
 }
 
-pub fn states() {
+pub(crate) fn states() {
     sweep(b"state 0", 3, 2, Part::Byte(16), 0, 255);
     sweep(b"state 1", 3, 2, Part::Byte(17), 0, 255);
     sweep(b"state 2", 3, 2, Part::Byte(18), 0, 255);

@@ -7,7 +7,7 @@ use rules::Answer;
 // An answer's number and place, by document 01's table of refusals.
 pub struct Told(pub usize, pub usize);
 
-pub fn tell(answer: Answer) -> Told
+pub(crate) fn tell(answer: Answer) -> Told
     ensures { λ r. ⌜ (r .0 ≡ number answer) × (r .1 ≡ place answer) ⌝ }
 {
     match answer {
@@ -25,24 +25,24 @@ pub fn tell(answer: Answer) -> Told
     }
 }
 
-pub fn put(text: &[u8]) {
+pub(crate) fn put(text: &[u8]) {
     io::write_all(1, text);
 }
 
-pub fn number(before: &[u8], x: usize) {
+pub(crate) fn number(before: &[u8], x: usize) {
     put(before);
     io::print_decimal(1, x as u64);
 }
 
 // The end of a line.
-pub fn answer(told: Told) {
+pub(crate) fn answer(told: Told) {
     number(b": ", told.0);
     number(b" ", told.1);
     put(b"\n");
 }
 
 // The values from the first to the last were answered alike.
-pub fn run(name: &[u8], first: usize, last: usize, told: Told) {
+pub(crate) fn run(name: &[u8], first: usize, last: usize, told: Told) {
     put(name);
     number(b" = ", first);
     if first < last {

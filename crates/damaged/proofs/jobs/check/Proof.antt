@@ -1,6 +1,7 @@
--- `damaged::jobs::check` is safe: the bytes lent are as many as asked.
-use mathlib.Core.Path.{sym}
+-- `damaged::jobs::check` meets its contract: the bytes lent are as many as asked, and their answer is told.
+use mathlib.Core.Path.{sym, ap, _∙_}
 use lib.Seq.{length-take-le}
+use Rattle.rules.specs.Answers.{number, place}
 use borrow.Author.Needs.{needs}
 use Rattle.damaged.proofs.jobs.check.Statement.{statement}
 use Rattle.damaged.proofs.jobs.check.Tie as tie
@@ -15,7 +16,9 @@ tell-requires : tie.Need-tell-requires
 tell-requires c κs = search needs
 
 returns : tie.Need-returns
-returns c = search needs
+returns c =
+    let e = c .before .check .ensures in
+    (c .tell .ensures .0 ∙ ap number e, c .tell .ensures .1 ∙ ap place e)
 
 pub check-spec : {M : Type 1} → statement M
 check-spec = tie.close (tie.spec slice-aggregate-check check-requires tell-requires returns)
