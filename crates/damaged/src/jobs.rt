@@ -5,7 +5,7 @@ ghost use Prim.Native.Nat.{_+_, _*_, _≤_};
 ghost use lib.ListN.{length, take};
 ghost use Rattle.rules.specs.Answers.{number, place};
 ghost use Rattle.rules.specs.Job.{checked};
-ghost use Rattle.damaged.specs.Change.{Within};
+ghost use Rattle.damaged.specs.Change.{Allowed};
 use crate::text;
 use memory::put_word;
 
@@ -51,7 +51,7 @@ pub struct Change(pub Part, pub usize);
 
 // Makes a change, and says how many bytes are lent then.
 pub(crate) fn make(change: Change, job: &mut [u8], lent: usize) -> usize
-    requires { ⌜ Within (change .0) (change .1) × (length (now job) ≡ 16896) × (lent ≤ 16896) ⌝ }
+    requires { ⌜ Allowed (change .0) (change .1) × (length (now job) ≡ 16896) × (lent ≤ 16896) ⌝ }
     ensures { λ r. ⌜ r ≤ 16896 ⌝ }
 {
     let part = change.0;

@@ -1,6 +1,6 @@
 // Two damages at once: the first in document 01's order must be given.
 
-ghost use Rattle.damaged.specs.Change.{Within};
+ghost use Rattle.damaged.specs.Change.{Allowed};
 use crate::jobs;
 use crate::jobs::Change;
 use crate::jobs::Part;
@@ -25,7 +25,7 @@ fn put_name(number: usize) {
 }
 
 fn numbered(number: usize) -> Change
-    ensures { λ r. ⌜ Within (r .0) (r .1) ⌝ }
+    ensures { λ r. ⌜ Allowed (r .0) (r .1) ⌝ }
 {
     match number {
         0 => Change(Part::Lent, 11),

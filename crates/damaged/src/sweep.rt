@@ -1,7 +1,7 @@
 // One part of a job at a time, at every value.
 
 ghost use Prim.Native.Nat.{_+_, _*_, _≤_};
-ghost use Rattle.damaged.specs.Change.{Within};
+ghost use Rattle.damaged.specs.Change.{Allowed};
 use crate::jobs;
 use crate::jobs::Change;
 use crate::jobs::Part;
@@ -9,7 +9,7 @@ use crate::text::run;
 
 // A part of a job of n rows of m at every value from the first to the last.
 fn sweep(name: &[u8], n: usize, m: usize, part: Part, first: usize, last: usize)
-    requires { ⌜ (12 + 2 * m + n * m ≤ 16896) × (n ≤ 257) × Within part last × (first ≤ last) × (last ≤ 65535) ⌝ }
+    requires { ⌜ (12 + 2 * m + n * m ≤ 16896) × (n ≤ 257) × Allowed part last × (first ≤ last) × (last ≤ 65535) ⌝ }
 {
     let mut job = jobs::built(n, m);
     let whole = 12 + 2 * m + n * m;

@@ -8,9 +8,10 @@ use lib.Dec.{ltb, eqb}
 use lib.ListN.{length}
 use borrow.Author.Tests.{le-ltb, eq-eqb, ne-eqb}
 use Rattle.rules.specs.Answers.{when_refuse_else_, passed}
-use Rattle.rules.specs.Job.{Bytes, word, outside, badWeight, badState, checked}
+use Rattle.rules.specs.Job.{Bytes, word, badWeight, badState, checked}
 use Rattle.rules.specs.declared.Answer.{Answer}
 use Rattle.rules.specs.declared.Answer.the-variants.{Layout, Weight, State}
+use Rattle.rules.proofs.Job.{inside}
 use Rattle.job.specs.Stages.{Sized, LaidOut}
 
 -- A field that was read, held against the number that it must be.
@@ -20,10 +21,6 @@ module _ {read field y : ℕ} (is : read ≡ field) where
 
   pub differ : (read ≡ y → ⊥) → eqb field y ≡ false
   differ h = ne-eqb _ _ (λ e. h (is ∙ e))
-
--- A number within its bounds is not outside them.
-inside : (low high x : ℕ) → low ≤ x → x ≤ high → outside low high x ≡ false
-inside low high x l h = rw (le-ltb x low l, le-ltb high x h)
 
 -- WEIGHT and STATE.
 abbrev contents : Bytes → ℕ → ℕ → Answer

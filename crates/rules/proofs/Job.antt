@@ -9,7 +9,7 @@ use lib.ListN.{length, getD, take, drop, length-drop}
 use lib.Seq.{ext-getD, getD-take, getD-drop, length-take-le}
 use lib.Dec.{ltb, eqb}
 use native.Mathlib.Omega.{arith}
-use borrow.Author.Tests.{ltb-false, eqb-true, not-false}
+use borrow.Author.Tests.{le-ltb, ltb-false, eqb-true, not-false}
 use Rattle.graph.specs.Below.{table, first}
 use Rattle.graph.proofs.Below.{is-false, or-true, first-before, length-table, getD-table}
 use Rattle.rules.specs.Answers.{number, when_refuse_else_}
@@ -44,6 +44,10 @@ within low high x e = record {
   at-least = ltb-false x low (is-false _ (λ l. true≢false (sym (or-true (ltb x low) (ltb high x) .1 (inl l)) ∙ e)));
   at-most = ltb-false high x (is-false _ (λ r. true≢false (sym (or-true (ltb x low) (ltb high x) .1 (inr r)) ∙ e)));
 }
+
+-- And the other way round.
+pub inside : (low high x : ℕ) → low ≤ x → x ≤ high → outside low high x ≡ false
+inside low high x l h = rw (le-ltb x low l, le-ltb high x h)
 
 -- Where the first of n that fails the bounds is not below n, all are within them.
 all-within : (n low high : ℕ) (f : ℕ → ℕ) → ltb (first n (λ i. outside low high (f i))) n ≡ false → (i : ℕ) → i < n → Within low high (f i)

@@ -52,7 +52,8 @@ pub record Sound (rs : List Row) (m : ℕ) (run : Run) : Type 0 where
   -- each round made a type
   pub rounds-made : run .rounds ≤ length (made run)
 
-rows-sampled : (R : Row → Type 0) (rs : List Row) → ((i : ℕ) → i < length rs → R (rowAt rs i)) → EachRow R (sampled rs)
+-- What holds of all rows holds of the rows of their types.
+pub rows-sampled : (R : Row → Type 0) (rs : List Row) → ((i : ℕ) → i < length rs → R (rowAt rs i)) → EachRow R (sampled rs)
 unfolding sampledAt
 rows-sampled R rs each = each-row R (sampled rs) .1 (λ t h. let (k, l, e) = in-sampled rs t h in rw e (each k l))
 

@@ -16,18 +16,19 @@ use Rattle.rules.specs.declared.Answer.{Answer}
 use Rattle.rules.specs.declared.Answer.the-variants.{Types}
 use Rattle.rules.proofs.Job.{passed-is, length-rows, row-at, row-widths}
 use Rattle.rules.proofs.Rows.{same-row}
+use Rattle.rules.proofs.Sound.{rows-sampled}
 use Rattle.memory.specs.Placed.{placed}
 use Rattle.memory.proofs.Placed.{length-placed}
 use Rattle.types.specs.State.{stored, storedAt, laid, blank, kindsOf, single, more, oneMore}
 use Rattle.types.specs.Collapse.{entered, Collapsed}
-use Rattle.types.proofs.State.{OfWidth, length-stored, length-laid, laid-none, laid-more, laid-same, kinds-none, kinds-at, kinds-more, kinds-set, row-of, rows-more, rows-set, read-back}
-use Rattle.types.proofs.Prefix.{known, New, known-none, known-all, known-count, new-row, known-row, new-129th, few-types, row-of-type}
+use Rattle.types.proofs.State.{OfWidth, length-stored, length-laid, laid-none, laid-more, laid-first, kinds-none, kinds-at, kinds-more, kinds-set, row-of, rows-more, rows-set, read-back}
+use Rattle.types.proofs.Prefix.{known, New, known-none, known-all, known-count, new-row, known-row, new-129th, few-types}
 
 -- The types of the first k rows, in the state area and in the kinds.
 abbrev typesOf : Bytes → ℕ → List Node
 typesOf job k = known (jobRows job) k
 
-pub record Held (job before area : Bytes) (kinds : List Kind) (types k : ℕ) : Type 0 where
+pub record Holds (job before area : Bytes) (kinds : List Kind) (types k : ℕ) : Type 0 where
   pub ok : number (checked job) ≡ 0
   pub room : 8192 ≤ length before
   pub read : k ≤ rows job
@@ -37,12 +38,12 @@ pub record Held (job before area : Bytes) (kinds : List Kind) (types k : ℕ) : 
   pub states-are : area ≡ placed before 0 (laid (rowsOf (typesOf job k)))
 
 -- The same, by other names for what is equal.
-pub held-as : {job before area area′ : Bytes} {kinds kinds′ : List Kind} {types types′ k : ℕ} → Held job before area kinds types k →
-    area′ ≡ area → kinds′ ≡ kinds → types′ ≡ types → Held job before area′ kinds′ types′ k
-held-as held a b c = rw (a, b, c) held
+pub holds-as : {job before area area′ : Bytes} {kinds kinds′ : List Kind} {types types′ k : ℕ} → Holds job before area kinds types k →
+    area′ ≡ area → kinds′ ≡ kinds → types′ ≡ types → Holds job before area′ kinds′ types′ k
+holds-as held a b c = rw (a, b, c) held
 
 pub none-read : {job before : Bytes} {kinds : List Kind} → number (checked job) ≡ 0 → 8192 ≤ length before → kinds ≡ replicate 128 blank →
-    Held job before before kinds 0 0
+    Holds job before before kinds 0 0
 none-read {job} {before} p room e = record {
   ok = p;
   room = room;
@@ -63,13 +64,12 @@ module _ (job : Bytes) (ok : number (checked job) ≡ 0) where
       rw (← row-at job k h) (length-stored (rowAt (jobRows job) k) (omega (arith, narrow, row-widths job k (rw length-rows h))))
 
   wide : (k : ℕ) → OfWidth (width job) (rowsOf (typesOf job k))
-  wide k i h =
+  wide k =
       let rs = jobRows job in
-      let (q, l, e) = row-of-type (take k rs) i (rw length-map at h) in
       let n = length-take k rs in
-      rw (e, getD-take k rs q [] (omega arith)) (row-widths job q (omega arith))
+      rows-sampled (λ r. length r ≡ width job) (take k rs) (λ q l. rw (getD-take k rs q [] (omega arith)) (row-widths job q (omega arith)))
 
-module _ {job before area : Bytes} {kinds : List Kind} {types k : ℕ} (held : Held job before area kinds types k) where
+module _ {job before area : Bytes} {kinds : List Kind} {types k : ℕ} (held : Holds job before area kinds types k) where
   abbrev ts : List Node
   ts = typesOf job k
 
@@ -111,22 +111,23 @@ module _ {job before area : Bytes} {kinds : List Kind} {types k : ℕ} (held : H
     within = rw length-rows h
 
     abbrev has : ℕ → Bool
-    has j = sameRow (storedAt area j) (stored (jobRow job k))
+    has j = sameRow (rowAt (rowsOf ts) j) (rowAt (jobRows job) k)
 
-    has-is : (j : ℕ) → j < types → has j ≡ sameRow (rowAt (rowsOf ts) j) (rowAt (jobRows job) k)
-    has-is j l =
-        rw (held .states-are, ← row-at job k h)
-        (laid-same (width job) (rowsOf ts) (narrow job (held .ok)) (wide job (held .ok) k) before j (rowAt (jobRows job) k)
-        (rw length-map (omega arith)) (row-widths job k within))
+    -- Comparing what is stored finds what the rows say.
+    found-is : i ≡ first types has
+    found-is =
+        let n : length (rowsOf ts) ≡ types = rw (length-map, held .types-are) in
+        let r = rowAt (jobRows job) k in
+        let e = laid-first (width job) (rowsOf ts) (narrow job (held .ok)) (wide job (held .ok) k) before r (row-widths job k within) in
+        found ∙ rw (held .states-are, ← row-at job k h, ← n) e
 
     hit : i < types → rowAt (rowsOf ts) i ≡ rowAt (jobRows job) k
-    hit l = same-row _ _ .0 (sym (has-is i l) ∙ rw (← found) at (first-hits types has (rw found at l)))
+    hit l = same-row _ _ .0 (rw (← found-is) at (first-hits types has (rw found-is at l)))
 
     miss : types ≤ i → New (jobRows job) k
-    miss l j b e =
-        let g : j < types = omega arith in false≢true (sym (first-before types has j (omega arith)) ∙ has-is j g ∙ same-row _ _ .1 e)
+    miss l j b e = false≢true (sym (first-before types has j (omega (arith, found-is))) ∙ same-row _ _ .1 e)
 
-    pub one-row-more : i < types → Held job before area (set kinds i (oneMore (getD kinds i blank))) types (k + 1)
+    pub one-row-more : i < types → Holds job before area (set kinds i (oneMore (getD kinds i blank))) types (k + 1)
     one-row-more l =
         let b : i < length ts = omega arith in
         let t : Node = record { row = rowAt (jobRows job) k; origin = more (nodeAt ts i .origin) } in
@@ -142,7 +143,7 @@ module _ {job before area : Bytes} {kinds : List Kind} {types k : ℕ} (held : H
         }
 
     pub one-type-more : types ≤ i → types < 128 →
-        Held job before (placed area (64 * types) (stored (jobRow job k))) (set kinds types (single k)) (types + 1) (k + 1)
+        Holds job before (placed area (64 * types) (stored (jobRow job k))) (set kinds types (single k)) (types + 1) (k + 1)
     one-type-more l few =
         let n : 64 * length (rowsOf ts) ≡ 64 * types = rw (length-map, held .types-are) in
         let e = new-row (jobRows job) k within (miss l) in

@@ -1,4 +1,4 @@
 pub mod State
 pub mod Prefix
 pub mod Entering
-pub mod Once
+pub mod Collapsed

@@ -38,10 +38,6 @@ module _ (rs : List Row) where
   unfolding sampledAt
   type-row i h = List·getD-map (λ (t : Node). t .row) (sampled rs) i _ ∙ ap (λ (t : Node). t .row) (sampled-node rs i h)
 
-  -- The row of a type is one of the rows.
-  pub row-of-type : (i : ℕ) → i < length (sampled rs) → (k : ℕ) × (k < length rs) × (rowAt (rowsOf (sampled rs)) i ≡ rowAt rs k)
-  row-of-type i h = (getD (firsts rs) i 0, firsts-nth rs i (rw length-sampled at h) .within, type-row i h)
-
   -- Each row is the row of a type.
   pub type-of-row : (k : ℕ) → k < length rs → (i : ℕ) × (i < length (sampled rs)) × (rowAt (rowsOf (sampled rs)) i ≡ rowAt rs k)
   type-of-row k h =

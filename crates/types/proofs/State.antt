@@ -4,14 +4,13 @@ use mathlib.Core.Logic.{_≢_}
 use mathlib.Core.Bool.{Bool, _&&_}
 use mathlib.Core.List.{List, [], _∷_, _++_, map-append}
 use Prim.Native.Nat.{ℕ, zero, suc, _+_, _*_, _-_, _≤_, _<_}
-use native.Mathlib.Nat.{not-suc-le-zero}
 use native.Mathlib.Decide.{ℕ-discrete}
 use native.Mathlib.Omega.{arith}
 use lib.Dec.{eqb}
 use lib.ListN.{length, getD, drop, set, replicate, length-append, length-drop, length-set, length-map, length-replicate, getD-replicate, List·getD-append, List·getD-map}
 use lib.Seq.{length-take-le, getD-take, getD-drop, getD-append-seam, getD-set-same, getD-set-other, map-set-same, ext-getD}
 use Rattle.graph.specs.Below.{gather, first}
-use Rattle.graph.proofs.Below.{last-or, gather-more, gather-ext, table-ext, length-table, getD-table, table-getD, first-is, first-le, first-before, first-hits}
+use Rattle.graph.proofs.Below.{gather-more, gather-ext, table-ext, length-table, getD-table, table-getD, first-is, first-le, first-before, first-hits}
 use Rattle.rules.specs.Job.{Bytes, Row}
 use Rattle.rules.specs.Types.{Node, rowAt, nodeAt, rowsOf, sameRow}
 use Rattle.rules.specs.declared.Kind.{Kind}
@@ -56,14 +55,6 @@ stored-same u v e = rw e (same-before u v (replicate (64 - length v) 0) e)
 -- Every row has m states.
 abbrev pub OfWidth : ℕ → List Row → Type 0
 OfWidth m rs = (i : ℕ) → i < length rs → length (rowAt rs i) ≡ m
-
-pub width-none : (m : ℕ) → OfWidth m []
-width-none m i h = absurd (not-suc-le-zero h)
-
-pub width-more : (m : ℕ) (rs : List Row) (r : Row) → OfWidth m rs → length r ≡ m → OfWidth m (rs ++ (r ∷ []))
-width-more m rs r wide e i h =
-    last-or (λ j. length (rowAt (rs ++ (r ∷ [])) j) ≡ m) (length rs) i (omega (arith, length-append rs (r ∷ [])))
-    (rw getD-append-seam e) (λ l. rw (List·getD-append rs (r ∷ []) [] i l) (wide i l))
 
 -- No rows, and one row more behind the others.
 pub laid-append : (rs : List Row) (r : Row) → laid (rs ++ (r ∷ [])) ≡ laid rs ++ stored r

@@ -10,12 +10,12 @@ use Rattle.rules.specs.Job.{Bytes, rows, jobRow}
 use Rattle.rules.specs.Types.{sameRow}
 use Rattle.memory.specs.Placed.{placed}
 use Rattle.types.specs.State.{stored, storedAt}
-use Rattle.types.proofs.Entering.{Held, held-as, none-read, row-size, same-size, countable, all-read, one-row-more, one-type-more, refused}
+use Rattle.types.proofs.Entering.{Holds, holds-as, none-read, row-size, same-size, countable, all-read, one-row-more, one-type-more, refused}
 use Rattle.types.proofs.collapse.Statement.{statement}
 use Rattle.types.proofs.collapse.Tie as tie
 
 abbrev Inv-loop : tie.InvT-loop
-Inv-loop job states₀ n m kinds₀ types₀ k₀ states kinds types k = Held job states₀ states kinds types k
+Inv-loop job states₀ n m kinds₀ types₀ k₀ states kinds types k = Holds job states₀ states kinds types k
 
 abbrev μ-loop : tie.MeasureT-loop
 μ-loop job states₀ n m kinds₀ types₀ k₀ states kinds types k = n - k
@@ -109,9 +109,9 @@ loop-again c =
     let row = f .before .before .before .before .row in
     let alone = f .before .before .before .single in
     ⊎-elim
-    (λ w. held-as (one-row-more (l .inv) h (found f) (w .0 .taken))
+    (λ w. holds-as (one-row-more (l .inv) h (found f) (w .0 .taken))
     (w .3) (w .4 ∙ ap (set (l .kinds) (f .find-row .result)) (w .2 .ensures)) (w .5))
-    (λ w. held-as (one-type-more (l .inv) h (found f) (w .0 .left) (omega arith))
+    (λ w. holds-as (one-type-more (l .inv) h (found f) (w .0 .left) (omega arith))
     (w .7 ∙ w .4 .ensures ∙ ap (placed (l .states) (64 * l .types)) (row .ensures))
     (w .8 ∙ ap (set (l .kinds) (l .types)) (alone .ensures)) (w .9))
     (c .if1 .came)

@@ -5,7 +5,7 @@ use native.Mathlib.Omega.{arith}
 use lib.ListN.{length}
 use Rattle.damaged.specs.declared.jobs.Part.the-variants.{Lent, Word, Byte}
 use Rattle.damaged.specs.declared.jobs.Part.{Part}
-use Rattle.damaged.specs.Change.{Within}
+use Rattle.damaged.specs.Change.{Allowed}
 use Rattle.damaged.proofs.sweep.sweep.Statement.{statement}
 use Rattle.damaged.proofs.sweep.sweep.Tie as tie
 
@@ -17,7 +17,7 @@ abbrev μ-loop : tie.MeasureT-loop
 μ-loop name n m part first last job₀ whole lent told₀ start₀ value₀ value-end job told start value = value-end - value
 
 -- What a part can take, it can take less of.
-less : (p : Part) (v w : ℕ) → v ≤ w → Within p w → Within p v
+less : (p : Part) (v w : ℕ) → v ≤ w → Allowed p w → Allowed p v
 less Lent v w h e = omega arith
 less (Word at) v w h e = omega arith
 less (Byte at) v w h e = omega arith
