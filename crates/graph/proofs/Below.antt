@@ -12,7 +12,7 @@ use native.Mathlib.Numerals.{add-one}
 use native.Mathlib.Omega.{arith}
 use native.Mathlib.Decide.{ℕ-discrete, decLe}
 use lib.ListN.{length, getD, replicate, length-append, List·getD-append}
-use lib.Seq.{getD-at, ext-getD}
+use lib.Seq.{getD-at, getD-append-add, ext-getD}
 use Rattle.graph.specs.Below.{table, gather, given, only, sum, count, some, every, first}
 
 -- A number below n + 1 is n, or below n.
@@ -27,6 +27,11 @@ is-false false h = refl
 pub is-true : (t : Bool) → (t ≡ false → ⊥) → t ≡ true
 is-true true h = refl
 is-true false h = absurd (h refl)
+
+-- Two tests that pass together are one.
+pub same-tests : (a b : Bool) → (a ≡ true → b ≡ true) → (b ≡ true → a ≡ true) → a ≡ b
+same-tests true b f g = sym (f refl)
+same-tests false b f g = sym (is-false b (λ t. false≢true (g t)))
 
 pub or-true : (a b : Bool) → (a || b ≡ true) ↔ (a ≡ true) ⊎ (b ≡ true)
 or-true true b = (λ e. inl refl, λ s. refl)
@@ -300,6 +305,15 @@ count-one n p k h e u = sum-one n (λ i. cond (p i) 1 0) k h (λ i l ne. rw (is-
 pub count-all : (n : ℕ) (p : ℕ → Bool) → ((i : ℕ) → i < n → p i ≡ true) → count n p ≡ n
 count-all n p e = omega (arith, count-not n p, count-zero n (λ i. not (p i)) (λ i h. rw (e i h)))
 
+-- Where one number more passes, and of the others the same, one more is counted.
+pub count-flip : (n : ℕ) (p q : ℕ → Bool) (k : ℕ) → k < n → p k ≡ false → q k ≡ true → ((i : ℕ) → i < n → i ≢ k → q i ≡ p i) →
+    count n q ≡ count n p + 1
+unfolding sum
+count-flip (suc n) p q k h f t e = elim (ℕ-discrete k n) [
+  | yes s ↦ rw (← s, f, t) (omega (arith, count-ext k q p (λ i l. e i (omega arith) (omega arith))))
+  | no ne ↦ rw (e n (omega arith) (omega arith)) (omega (arith, count-flip n p q k (omega arith) f t (λ i l. e i (omega arith))))
+]
+
 pub count-pos : (n : ℕ) (p : ℕ → Bool) → (1 ≤ count n p) ↔ ((i : ℕ) × (i < n) × (p i ≡ true))
 count-pos n p = (
   λ h. some-true n p .0 (is-true (some n p) (λ e. omega (arith, count-zero n p (some-false n p .0 e)))),
@@ -313,6 +327,34 @@ length-only false x = refl
 -- As many are kept as pass.
 pub length-kept : {A : Type 0} (n : ℕ) (p : ℕ → Bool) (f : ℕ → A) → length (gather n (λ i. only (p i) (f i))) ≡ count n p
 length-kept n p f = length-gather n _ ∙ sum-ext n _ _ (λ i h. length-only (p i) (f i))
+
+-- How many of a list's elements pass, by their places: of two lists one behind the other, of a gather, and of what is kept.
+module _ {A : Type 0} (p : A → Bool) (d : A) where
+  abbrev passing : List A → ℕ
+  passing xs = count (length xs) (λ k. p (getD xs k d))
+
+  passing-append : (xs ys : List A) → passing (xs ++ ys) ≡ passing xs + passing ys
+  passing-append xs ys =
+      let tests : ℕ → ℕ = λ k. cond (p (getD (xs ++ ys) k d)) 1 0 in
+      rw (
+        length-append,
+        sum-add (length xs) (length ys) tests,
+        sum-ext (length xs) tests (λ k. cond (p (getD xs k d)) 1 0) (λ k h. rw (List·getD-append xs ys d k h)),
+        sum-ext (length ys) (λ k. tests (length xs + k)) (λ k. cond (p (getD ys k d)) 1 0) (λ k h. rw (getD-append-add xs ys k d)),
+      )
+
+  pub passing-gather : (n : ℕ) (f : ℕ → List A) → passing (gather n f) ≡ sum n (λ i. passing (f i))
+  unfolding gather sum
+  passing-gather zero f = refl
+  passing-gather (suc n) f = passing-append (gather n f) (f n) ∙ rw (passing-gather n f)
+
+  passing-only : (t : Bool) (x : A) → passing (only t x) ≡ cond (t && p x) 1 0
+  unfolding sum
+  passing-only true x = omega arith
+  passing-only false x = refl
+
+  pub passing-kept : (n : ℕ) (t : ℕ → Bool) (f : ℕ → A) → passing (gather n (λ i. only (t i) (f i))) ≡ count n (λ i. t i && p (f i))
+  passing-kept n t f = passing-gather n _ ∙ sum-ext n _ _ (λ i h. passing-only (t i) (f i))
 
 -- k is the first that passes, or n where none does.
 record First (n : ℕ) (p : ℕ → Bool) (k : ℕ) : Type 0 where

@@ -4,6 +4,7 @@ pub mod Spans
 pub mod Links
 pub mod Exchange
 pub mod Feasibility
+pub mod Growing
 pub mod Search
 pub mod Exists
 pub mod Spanning

@@ -1,8 +1,8 @@
 -- Links: those that the test finds are the feasible ones, they ascend by lower, then higher number, they are few enough for the
 -- link table, and they always join all types.
-use mathlib.Core.Path.{_≡_, refl, sym, ap, _∙_}
+use mathlib.Core.Path.{_≡_, refl, sym, ap, ap₂, _∙_}
 use mathlib.Core.Logic.{_↔_, _≢_, _⊎_, inl, inr, ⊎-elim}
-use mathlib.Core.Bool.{Bool, true, false, cond, not, _&&_, and-eq-true-iff}
+use mathlib.Core.Bool.{Bool, true, false, cond, not, _&&_, _||_, and-eq-true-iff}
 use mathlib.Core.List.{List}
 use Prim.Native.Nat.{ℕ, _+_, _*_, _-_, _≤_, _<_}
 use native.Mathlib.Nat.{mul-le-mul}
@@ -16,6 +16,8 @@ use Rattle.graph.specs.Walk.{Walk, stop}
 use Rattle.graph.specs.Feasible.{Short, Chain}
 use Rattle.graph.specs.Spans.{cell, spans, feasible}
 use Rattle.graph.proofs.Below.{
+  is-false,
+  same-tests,
   or-true,
   In,
   in-gather,
@@ -31,6 +33,11 @@ use Rattle.graph.proofs.Below.{
   sum-swap,
   count-not,
   count-one,
+  count-ext,
+  count-zero,
+  sum-one,
+  passing-gather,
+  passing-kept,
   length-gather,
   length-kept,
 }
@@ -39,7 +46,7 @@ use Rattle.graph.proofs.Spans.{span-self, chain-spans, feasible-is}
 use Rattle.graph.proofs.Theorems.{links-join}
 use Rattle.rules.specs.Job.{Row}
 use Rattle.rules.specs.Distance.{apart}
-use Rattle.rules.specs.Links.{FeasibleLink, linksAt, linkAt, Between, Before, names, linked, unlinked, joinAll}
+use Rattle.rules.specs.Links.{FeasibleLink, linksAt, linkAt, Between, Before, names, linked, linkCount, unlinked, joinAll}
 use Rattle.rules.specs.declared.Link.{Link}
 use Rattle.rules.proofs.Distance.{apart-sym}
 use Rattle.rules.proofs.Ascending.{Ascending, ascending-only, ascending-gather, ascending-at}
@@ -210,6 +217,57 @@ module _ (ws : List ℕ) (e : ℕ) (rs : List Row) where
       ends l f (inl s) = (omega (arith, f .rising, f .within), omega (arith, f .within), rw (s .0, s .1) at (f .feasible-link))
       ends l f (inr s) =
           (omega (arith, f .within), omega (arith, f .rising, f .within), feasible-sym j i (rw (s .0, s .1) at (f .feasible-link)))
+
+  -- A type's links are as many as the other types that it is linked with: a link with x as its lower end is one of `test x j`, and
+  -- one with x as its higher end is one of `test j x`.
+  ends-apart : (t a b : Bool) → (t ≡ true → a ≡ true → b ≡ true → ⊥) → cond (t && (a || b)) 1 0 ≡ cond (a && t) 1 0 + cond (b && t) 1 0
+  ends-apart true true true f = absurd (f refl refl refl)
+  ends-apart true true false f = omega arith
+  ends-apart true false true f = omega arith
+  ends-apart true false false f = omega arith
+  ends-apart false true true f = omega arith
+  ends-apart false true false f = omega arith
+  ends-apart false false true f = omega arith
+  ends-apart false false false f = omega arith
+
+  not-down : (i j : ℕ) → j ≤ i → test i j ≡ false
+  not-down i j h = rw (is-false (ltb i j) (λ t. omega (arith, ltb-true i j t)))
+
+  module _ (x : ℕ) (hx : x < n) where
+    lower : sum n (λ i. count n (λ j. eqb i x && test i j)) ≡ count n (test x)
+    lower =
+        sum-one n (λ i. count n (λ j. eqb i x && test i j)) x hx (λ i h ne. count-zero n (λ j. eqb i x && test i j) (λ j l. rw (ne-eqb i x ne)))
+        ∙ count-ext n (λ j. eqb x x && test x j) (test x) (λ j l. rw (eq-eqb x x refl))
+
+    higher : sum n (λ i. count n (λ j. eqb j x && test i j)) ≡ count n (λ i. test i x)
+    higher = sum-ext n _ _ (λ i h.
+        sum-one n (λ j. cond (eqb j x && test i j) 1 0) x hx (λ j l ne. rw (ne-eqb j x ne)) ∙ rw (eq-eqb x x refl))
+
+    named : (i j : ℕ) → cond (test i j && names (linkOf i j) x) 1 0 ≡ cond (eqb i x && test i j) 1 0 + cond (eqb j x && test i j) 1 0
+    named i j = ends-apart (test i j) (eqb i x) (eqb j x) (λ t a b.
+        omega (arith, ltb-true i j (and-eq-true-iff (ltb i j) _ .0 t .0), eqb-true i x a, eqb-true j x b))
+
+    one-way : (j : ℕ) → j < n → cond (test x j) 1 0 + cond (test j x) 1 0 ≡ cond (not (eqb x j) && linked (linksAt ws e rs) x j) 1 0
+    one-way j h =
+        let l = linked (linksAt ws e rs) x j in
+        elim (ℕ-discrete x j) [
+          | yes p ↦ rw (not-down x j (omega arith), not-down j x (omega arith), eq-eqb x j p)
+          | no ne ↦ let is = linked-is x j ne in elim (decLt x j) [
+            | yes up ↦ let t = test-is x j hx h in
+                let same = same-tests (test x j) l (λ p. is .1 (hx, h, t .0 p .1)) (λ p. t .1 (up, is .0 p .2)) in
+                rw (not-down j x (omega arith), ne-eqb x j ne, same) (omega arith)
+            | no f ↦ let t = test-is j x h hx in
+                let same = same-tests (test j x) l (λ p. is .1 (hx, h, feasible-sym j x (t .0 p .1))) (λ p. t .1 (omega arith, feasible-sym x j (is .0 p .2))) in
+                rw (not-down x j (omega arith), ne-eqb x j ne, same) (omega arith)
+          ]
+        ]
+
+    pub link-count : linkCount (linksAt ws e rs) x ≡ count n (λ j. not (eqb x j) && linked (linksAt ws e rs) x j)
+    unfolding linksAt
+    link-count =
+        passing-gather (λ l. names l x) _ n up
+        ∙ sum-ext n _ _ (λ i h. passing-kept (λ l. names l x) _ n (test i) (linkOf i) ∙ sum-ext n _ _ (λ j l. named i j) ∙ sum-plus n _ _)
+        ∙ sum-plus n _ _ ∙ ap₂ (λ a b. a + b) lower higher ∙ sym (sum-plus n _ _) ∙ sum-ext n _ _ one-way
 
 -- A step along a link.
 abbrev pub Along : List Link → ℕ → ℕ → Type 0
