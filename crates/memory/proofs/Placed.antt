@@ -54,6 +54,12 @@ module _ {A : Type 0} where
     getD-placed-behind i d l =
         rw (← add-zero i) (sym (getD-drop i (placed b at xs) 0 d) ∙ rw (drop-placed i l) (getD-drop i b 0 d))
 
+    -- What is placed over it, and is no shorter, leaves nothing of it.
+    pub placed-over : (ys : List A) → length xs ≤ length ys → placed (placed b at xs) at ys ≡ placed b at ys
+    unfolding placed
+    placed-over ys l =
+        ap₂ (λ (f r : List A). f ++ ys ++ r) (take-placed at (omega arith)) (drop-placed (at + length ys) (omega arith))
+
     -- Placed behind what was placed, both are placed as one.
     pub placed-twice : (k : ℕ) (ys : List A) → at + length xs ≡ k → placed (placed b at xs) k ys ≡ placed b at (xs ++ ys)
     unfolding placed

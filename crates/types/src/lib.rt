@@ -56,7 +56,7 @@ pub fn find_row(states: &[u8], t: usize, row: &[u8; 64]) -> usize
 }
 
 // Room for 128 kinds, none of them in use.
-fn no_kinds() -> [Kind; 128]
+pub fn no_kinds() -> [Kind; 128]
     ensures { λ r. ⌜ r ≡ replicate 128 blank ⌝ }
 {
     [Kind {
