@@ -3,6 +3,7 @@ use mathlib.Core.Path.{_≡_, refl, sym, ap, _∙_}
 use mathlib.Core.Bool.{Bool, true, false, cond}
 use mathlib.Core.List.{List, _++_}
 use Prim.Native.Nat.{ℕ, _+_, _-_, _≤_, _<_}
+use native.Mathlib.Decide.{decLt}
 use native.Mathlib.Omega.{arith}
 use lib.Dec.{eqb}
 use lib.ListN.{length, getD, replicate, getD-replicate}
@@ -15,7 +16,8 @@ use Rattle.rules.specs.Distance.{difference, distance, apart}
 use Rattle.rules.specs.Call.{padded}
 use Rattle.types.specs.State.{stored, storedAt}
 use Rattle.types.proofs.State.{OfWidth, length-stored, stored-state}
-use Rattle.distances.specs.Area.{Measures, Written, New, storedApart}
+use Rattle.distances.specs.Area.{cellAt, Measures, Written, New, storedApart}
+use Rattle.distances.proofs.Area.{cell-kept, new-narrow}
 
 -- A character that weighs nothing makes no difference.
 weightless : (ws : List ℕ) (u v : Row) (c : ℕ) → getD ws c 0 ≡ 0 → difference ws u v c ≡ 0
@@ -50,8 +52,14 @@ module _ (m : ℕ) (rs : List Row) (small : m ≤ 64) (wide : OfWidth m rs) (ws 
       rw (lie i hi, lie j hj)
       (distance-stored ws (rowAt rs i) (rowAt rs j) (omega arith) (wide i hi ∙ sym weighed) (wide j hj ∙ sym weighed))
 
-  -- So the area measures the rows once all pairs of them are written.
-  pub measures-all : (before after : List ℕ) → Written (New 0 (length rs)) (storedApart (padded 64 ws) states) before after →
+  -- An area that measures the first k rows measures all of them once the pairs of the others are written.
+  pub measures-new : (k : ℕ) (before after : List ℕ) → length rs ≤ 128 → ((i j : ℕ) → i < j → j < k → cellAt before i j ≡ apart ws rs i j) →
+      Written (New k (length rs)) (storedApart (padded 64 ws) states) before after → Measures ws rs after
+  measures-new k before after few known w i j h l = elim (decLt j k) [
+    | yes g ↦ cell-kept w (new-narrow k (length rs) few) i j (omega arith) (λ t. omega (arith, t .first)) ∙ known i j h g
+    | no g ↦ w .holds i j (record { rising = h; first = omega arith; last = l }) ∙ measured i j (omega arith) l
+  ]
+
+  pub measures-all : (before after : List ℕ) → length rs ≤ 128 → Written (New 0 (length rs)) (storedApart (padded 64 ws) states) before after →
       Measures ws rs after
-  measures-all before after w i j h l =
-      w .holds i j (record { rising = h; first = omega arith; last = l }) ∙ measured i j (omega arith) l
+  measures-all before after few = measures-new 0 before after few (λ i j h g. absurd (omega arith))

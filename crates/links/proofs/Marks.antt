@@ -91,6 +91,13 @@ module _ (n e : ℕ) (before : List ℕ) {mid after : List ℕ} (h : n ≤ 128)
     kept = λ p other. x .kept p (λ i j t. other j i (t .0) (t .1)) ∙ w .kept p (λ i j t. other j i (t .0) (t .1));
   }
 
+-- Two marks that tell the same are equal.
+pub same-mark : {v u : ℕ} {L : Type 0} → (v ≡ 1) ↔ L → (u ≡ 1) ↔ L → v ≤ 1 → u ≤ 1 → v ≡ u
+same-mark {v} {u} f g h l = elim (ℕ-discrete v 1) [
+  | yes t ↦ t ∙ sym (g .1 (f .0 t))
+  | no other ↦ elim (ℕ-discrete u 1) [ yes t ↦ absurd (other (f .1 (g .0 t))) | no ne ↦ omega arith ]
+]
+
 -- What two who find the links leave is equal.
 module _ {n e : ℕ} {before : List ℕ} where
   found-written : {a b : List ℕ} → LinksFound n e before a → LinksFound n e before b → Written (Mirror n) (cellAt b) before a
@@ -99,15 +106,9 @@ module _ {n e : ℕ} {before : List ℕ} where
     holds = λ i j t.
         let h = t .0 in
         let l = t .1 in
-        same (p .linked j i h l) (q .linked j i h l) (p .or-not j i h l) (q .or-not j i h l);
+        same-mark (p .linked j i h l) (q .linked j i h l) (p .or-not j i h l) (q .or-not j i h l);
     kept = λ place other. p .kept place (λ i j h l. other j i (h, l));
   }
-    where
-      same : {v u : ℕ} {L : Type 0} → (v ≡ 1) ↔ L → (u ≡ 1) ↔ L → v ≤ 1 → u ≤ 1 → v ≡ u
-      same {v} {u} f g h l = elim (ℕ-discrete v 1) [
-        | yes t ↦ t ∙ sym (g .1 (f .0 t))
-        | no other ↦ elim (ℕ-discrete u 1) [ yes t ↦ absurd (other (f .1 (g .0 t))) | no ne ↦ omega arith ]
-      ]
 
   pub found-once : {a b : List ℕ} → n ≤ 128 → LinksFound n e before a → LinksFound n e before b → a ≡ b
   found-once h p q = written-once (λ i j t. omega arith) (λ i j. Dec·and (decLt j i) (decLt i n)) (found-written p q) (found-written q q)

@@ -1,0 +1,7 @@
+pub mod Places
+pub mod Staying
+pub mod Told
+pub mod Once
+pub mod Purging
+pub mod Back
+pub mod First

@@ -1,0 +1,14 @@
+-- The run's small state: the epsilon of its phase, and the state after some types are retired.
+use Prim.Native.Nat.{ℕ}
+use Rattle.purge.specs.declared.State.{State}
+use Rattle.purge.specs.declared.Phase.{Phase}
+use Rattle.purge.specs.declared.Phase.the-variants.{One, Two}
+
+-- Phase I is at epsilon, Phase II at 0.
+abbrev pub epsilonOf : Phase → ℕ
+epsilonOf (One epsilon) = epsilon
+epsilonOf Two = 0
+
+-- Some types are retired, and so many stay.
+abbrev pub keeping : State → ℕ → State
+keeping state count = record { types = count; made = state .made; rounds = state .rounds; phase = state .phase }

@@ -1,0 +1,45 @@
+-- Which types stay, and what one purge of all that is obsolete leaves.
+use mathlib.Core.Path.{_≡_}
+use mathlib.Core.Bool.{Bool, not, _&&_}
+use mathlib.Core.List.{List}
+use Prim.Native.Nat.{ℕ, _<_}
+use lib.Dec.{leb}
+use lib.ListN.{length, getD}
+use Rattle.graph.specs.Below.{gather, only}
+use Rattle.rules.specs.Job.{Bytes}
+use Rattle.rules.specs.Types.{inferred}
+use Rattle.rules.specs.declared.Kind.{Kind}
+use Rattle.types.specs.State.{blank}
+use Rattle.memory.specs.Placed.{placed}
+use Rattle.distances.specs.Area.{Written}
+use Rattle.retire.specs.Left.{Among, squeezed, KindsLeft, parted}
+use Rattle.links.specs.Marks.{markCount, LinksFound}
+use Rattle.purge.specs.State.{epsilonOf, keeping}
+use Rattle.purge.specs.declared.Held.{Held}
+use Rattle.purge.specs.declared.Stay.{Stay}
+
+-- Obsolete as memory tells it: an inferred type with at most two marks among t types.
+abbrev pub obsoleteIn : List ℕ → ℕ → Kind → ℕ → Bool
+obsoleteIn area t kind i = inferred (kind .origin) && leb (markCount area t i) 2
+
+-- The places of the types that stay, ascending.
+unfoldable pub staying : List ℕ → List Kind → ℕ → List ℕ
+staying area kinds t = gather t (λ i. only (not (obsoleteIn area t (getD kinds i blank) i)) i)
+
+-- They stand in front of an array of 128.
+pub record Stays (places : List ℕ) (stay : Stay) : Type 0 where
+  pub size : length (stay .kept) ≡ 128
+  pub count-is : stay .count ≡ length places
+  pub kept-is : (a : ℕ) → a < length places → getD (stay .kept) a 0 ≡ getD places a 0
+
+-- One time: rows, distances, kinds and state when those at the places of `stay` stay and the others go.
+pub record Once (states : Bytes) (area : List ℕ) (held : Held) (stay : Stay) (states′ : Bytes) (area′ : List ℕ) (held′ : Held) : Type 0 where
+  pub rows-are : states′ ≡ placed states 0 (parted (stay .kept) (stay .count) (held .state .types) (held .state .made) states)
+  pub distances-are : Written (Among (held .state .types)) (squeezed (stay .kept) (stay .count) area) area area′
+  pub kinds-are : KindsLeft (held .kinds) (stay .kept) (stay .count) (held′ .kinds)
+  pub state-is : held′ .state ≡ keeping (held .state) (stay .count)
+
+-- Links are found for the types that memory holds, and those that stay by them.
+pub record Surveyed (area : List ℕ) (held : Held) (area′ : List ℕ) (stay : Stay) : Type 0 where
+  pub found : LinksFound (held .state .types) (epsilonOf (held .state .phase)) area area′
+  pub stays : Stays (staying area′ (held .kinds) (held .state .types)) stay

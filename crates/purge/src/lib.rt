@@ -1,0 +1,141 @@
+// The room of the purge: obsolete types go together, links are found afresh, until none is obsolete. A type that goes is retired:
+// its row moves behind the rows of all types made and stays known. Here stands the run's small state too. It writes the state
+// area and the distance area.
+
+ghost use mathlib.Core.Path.{_≡_};
+ghost use Prim.Native.Nat.{_+_, _*_, _≤_, _<_};
+ghost use lib.ListN.{length};
+ghost use Rattle.retire.specs.Left.{Chosen};
+ghost use Rattle.purge.specs.State.{epsilonOf, keeping};
+ghost use Rattle.purge.specs.Stay.{obsoleteIn, staying, Stays, Once, Surveyed};
+ghost use Rattle.purge.specs.Holds.{Purged};
+use links::find_links;
+use links::link_count;
+use retire::distances_left;
+use retire::kinds_left;
+use retire::rows_left;
+use rules::Kind;
+use rules::Origin;
+
+// Phase I is at the job's epsilon, Phase II at epsilon 0.
+pub enum Phase {
+    One { epsilon: usize },
+    Two,
+}
+
+// The run's small state: how many types are current, how many were ever made, the rounds that added a type, the phase.
+pub struct State {
+    pub types: usize,
+    pub made: usize,
+    pub rounds: usize,
+    pub phase: Phase,
+}
+
+impl State {
+    // The epsilon that links are found at.
+    pub fn epsilon(self) -> usize
+        ensures { λ r. ⌜ r ≡ epsilonOf (self .phase) ⌝ }
+    {
+        let phase = self.phase;
+        match phase {
+            Phase::One { epsilon } => epsilon,
+            Phase::Two => 0,
+        }
+    }
+
+    // So many types stay current; the others are retired and count as made.
+    pub fn keeping(mut self, count: usize) -> Self
+        ensures { λ r. ⌜ r ≡ keeping self count ⌝ }
+    {
+        self.types = count;
+        self
+    }
+}
+
+// What of the run is held by value: its small state, and the kinds of its current types.
+pub struct Held {
+    pub state: State,
+    pub kinds: [Kind; 128],
+}
+
+// The places of the types that stay, ascending, and how many they are.
+pub struct Stay {
+    pub kept: [usize; 128],
+    pub count: usize,
+}
+
+// An inferred type with at most two links is obsolete. Sampled types never go.
+fn obsolete(area: &[u16], t: usize, kind: Kind, i: usize) -> bool
+    requires { ⌜ (t ≤ 128) × (i < t) × (16384 ≤ length (now area)) ⌝ }
+    ensures { λ r. ⌜ r ≡ obsoleteIn (now (area .entry)) t kind i ⌝ }
+{
+    let origin = kind.origin;
+    match origin {
+        Origin::Sampled { rows: _, first: _ } => false,
+        Origin::Inferred { round: _ } => link_count(area, t, i) <= 2,
+    }
+}
+
+// Which of t types stay.
+fn survivors(area: &[u16], t: usize, kinds: [Kind; 128]) -> Stay
+    requires { ⌜ (t ≤ 128) × (16384 ≤ length (now area)) ⌝ }
+    ensures { λ r. ⌜ Stays (staying (now (area .entry)) kinds t) r ⌝ }
+{
+    let mut kept = [0usize; 128];
+    let mut count = 0;
+    let mut i = 0;
+    while i < t {
+        let kind = kinds[i];
+        if !obsolete(area, t, kind, i) {
+            kept[count] = i;
+            count += 1;
+        }
+        i += 1;
+    }
+    Stay { kept, count }
+}
+
+// The obsolete types go together; those at the places of `stay` stay.
+fn purge_once(states: &mut [u8], area: &mut [u16], held: Held, stay: Stay) -> Held
+    requires { ⌜ Chosen (stay .kept) (stay .count) (held .state .types) × (held .state .types ≤ held .state .made) × (held .state .made ≤ 128) × (8192 ≤ length (now states)) × (16384 ≤ length (now area)) ⌝ }
+    ensures { λ r. ⌜ Once (now (states .entry)) (now (area .entry)) held stay (now (states .exit)) (now (area .exit)) r ⌝ }
+{
+    let state = held.state;
+    let kinds = held.kinds;
+    let kept = stay.kept;
+    let count = stay.count;
+    rows_left(states, &kept, count, state.types, state.made);
+    distances_left(area, &kept, count, state.types);
+    let left = kinds_left(kinds, &kept, count);
+    Held {
+        state: state.keeping(count),
+        kinds: left,
+    }
+}
+
+// The links of the current types at the phase's epsilon, and which types stay by them.
+fn survey(area: &mut [u16], held: Held) -> Stay
+    requires { ⌜ (held .state .types ≤ 128) × (epsilonOf (held .state .phase) ≤ 65535) × (16384 ≤ length (now area)) ⌝ }
+    ensures { λ r. ⌜ Surveyed (now (area .entry)) held (now (area .exit)) r ⌝ }
+{
+    let state = held.state;
+    let types = state.types;
+    find_links(area, types, state.epsilon());
+    let kinds = held.kinds;
+    survivors(area, types, kinds)
+}
+
+// All obsolete types go together, links are found afresh, and this repeats until none is obsolete.
+pub fn purge(states: &mut [u8], area: &mut [u16], held: Held) -> Held
+    requires { ⌜ (held .state .types ≤ held .state .made) × (held .state .made ≤ 128) × (epsilonOf (held .state .phase) ≤ 65535) × (8192 ≤ length (now states)) × (16384 ≤ length (now area)) ⌝ }
+    ensures { λ r. ⌜ Purged (now (states .entry)) (now (area .entry)) held (now (states .exit)) (now (area .exit)) r ⌝ }
+{
+    let mut now = held;
+    let mut stay = survey(area, now);
+    while stay.count < now.state.types {
+        let next = purge_once(states, area, now, stay);
+        now = next;
+        stay = survey(area, now);
+    }
+    now
+}
