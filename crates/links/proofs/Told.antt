@@ -1,7 +1,7 @@
 -- An area that measures rows, and whose links were found, tells the links of the rules: pair by pair, and their count.
 use mathlib.Core.Path.{_≡_, sym, _∙_}
 use mathlib.Core.Logic.{_↔_, _≢_, Iff·trans}
-use mathlib.Core.Bool.{Bool, true, not, _&&_}
+use mathlib.Core.Bool.{not, _&&_}
 use mathlib.Core.List.{List}
 use Prim.Native.Nat.{ℕ, _+_, _*_, _≤_, _<_, min, max}
 use native.Mathlib.Omega.{arith}
@@ -9,7 +9,6 @@ use native.Mathlib.Decide.{ℕ-discrete, decLt}
 use lib.Dec.{eqb}
 use lib.ListN.{length, getD}
 use borrow.Author.Tests.{eqb-true, eq-eqb, ne-eqb}
-use Rattle.graph.specs.Feasible.{Feasible}
 use Rattle.graph.proofs.Below.{same-tests, count-ext}
 use Rattle.graph.proofs.Feasibility.{feasible-as}
 use Rattle.rules.specs.Job.{Row}
@@ -17,7 +16,7 @@ use Rattle.rules.specs.Distance.{apart}
 use Rattle.rules.specs.Links.{FeasibleLink, linksAt, linked, linkCount}
 use Rattle.rules.proofs.Distance.{apart-sym}
 use Rattle.rules.proofs.Links.{feasible-sym, linked-is, link-count}
-use Rattle.distances.specs.Area.{cellAt, Measures}
+use Rattle.distances.specs.Area.{Measures}
 use Rattle.spans.specs.Tree.{between, mirrored}
 use Rattle.links.specs.Marks.{marked, markCount, LinksFound, Tells}
 

@@ -2,7 +2,7 @@
 // and writes its mirror cells: 1 if the two types are linked, and else 0.
 
 ghost use mathlib.Core.Path.{_≡_};
-ghost use Prim.Native.Nat.{_+_, _≤_, _<_};
+ghost use Prim.Native.Nat.{_≤_, _<_};
 ghost use lib.ListN.{length};
 ghost use Rattle.distances.specs.Area.{Written};
 ghost use Rattle.spans.specs.Tree.{Mirror};

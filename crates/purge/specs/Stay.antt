@@ -9,6 +9,8 @@ use Rattle.graph.specs.Below.{gather, only}
 use Rattle.rules.specs.Job.{Bytes}
 use Rattle.rules.specs.Types.{inferred}
 use Rattle.rules.specs.declared.Kind.{Kind}
+use Rattle.rules.specs.declared.Origin.{Origin}
+use Rattle.rules.specs.declared.Origin.the-variants.{Sampled, Inferred}
 use Rattle.types.specs.State.{blank}
 use Rattle.memory.specs.Placed.{placed}
 use Rattle.distances.specs.Area.{Written}
@@ -17,6 +19,11 @@ use Rattle.links.specs.Marks.{markCount, LinksFound}
 use Rattle.purge.specs.State.{epsilonOf, keeping}
 use Rattle.purge.specs.declared.Held.{Held}
 use Rattle.purge.specs.declared.Stay.{Stay}
+
+-- How many links a type needs to stay: three if it is inferred, and none if it is sampled.
+abbrev pub neededBy : Origin → ℕ
+neededBy (Sampled rows first) = 0
+neededBy (Inferred round) = 3
 
 -- Obsolete as memory tells it: an inferred type with at most two marks among t types.
 abbrev pub obsoleteIn : List ℕ → ℕ → Kind → ℕ → Bool

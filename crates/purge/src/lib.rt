@@ -3,11 +3,11 @@
 // area and the distance area.
 
 ghost use mathlib.Core.Path.{_≡_};
-ghost use Prim.Native.Nat.{_+_, _*_, _≤_, _<_};
+ghost use Prim.Native.Nat.{_≤_, _<_};
 ghost use lib.ListN.{length};
 ghost use Rattle.retire.specs.Left.{Chosen};
 ghost use Rattle.purge.specs.State.{epsilonOf, keeping};
-ghost use Rattle.purge.specs.Stay.{obsoleteIn, staying, Stays, Once, Surveyed};
+ghost use Rattle.purge.specs.Stay.{neededBy, obsoleteIn, staying, Stays, Once, Surveyed};
 ghost use Rattle.purge.specs.Holds.{Purged};
 use links::find_links;
 use links::link_count;
@@ -64,16 +64,24 @@ pub struct Stay {
     pub count: usize,
 }
 
-// An inferred type with at most two links is obsolete. Sampled types never go.
+// How many links a type needs to stay. Sampled types never go.
+fn needed(kind: Kind) -> usize
+    ensures { λ r. ⌜ r ≡ neededBy (kind .origin) ⌝ }
+{
+    let origin = kind.origin;
+    match origin {
+        Origin::Sampled { rows: _, first: _ } => 0,
+        Origin::Inferred { round: _ } => 3,
+    }
+}
+
+// An inferred type with at most two links is obsolete. The links of a sampled type are not counted.
 fn obsolete(area: &[u16], t: usize, kind: Kind, i: usize) -> bool
     requires { ⌜ (t ≤ 128) × (i < t) × (16384 ≤ length (now area)) ⌝ }
     ensures { λ r. ⌜ r ≡ obsoleteIn (now (area .entry)) t kind i ⌝ }
 {
-    let origin = kind.origin;
-    match origin {
-        Origin::Sampled { rows: _, first: _ } => false,
-        Origin::Inferred { round: _ } => link_count(area, t, i) <= 2,
-    }
+    let needed = needed(kind);
+    needed != 0 && link_count(area, t, i) < needed
 }
 
 // Which of t types stay.
