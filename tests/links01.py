@@ -1,8 +1,6 @@
-"""links01: distances, feasible links and purge, a second implementation.
-
-Used only for testing.  Written from two documents alone and from no other
-code: 01-scope.md (called "01" below, the exact rules) and paper000.txt
-(called "the paper": Bandelt, Forster, Roehl 1999, document 000).
+"""Distances, feasible links and purge, written from document 01 (called "01"
+below, the exact rules) and document 000 (called "the paper": Bandelt, Forster,
+Roehl 1999) alone, by an author who had not seen the library.
 
 It is plain and slow on purpose.  Numbers are Python ints, so no sum wraps.
 A row is a str or bytes; a type's number is its place in the list given.

@@ -1,7 +1,7 @@
 -- Laws of Area.antt: what is written by no store, by one and by one after another, and that two who write the same leave the same.
 -- Every cell asked for is narrow: it lies in one of its line's 128 columns, so that a place has one line and one column.
 use mathlib.Core.Path.{_≡_, refl, sym, _∙_}
-use mathlib.Core.Logic.{_↔_, _⊎_, inl, inr, ⊎-elim, Dec·and}
+use mathlib.Core.Logic.{_↔_, _≢_, _⊎_, inl, inr, ⊎-elim, Dec·and}
 use mathlib.Core.List.{List}
 use Prim.Native.Nat.{ℕ, _+_, _*_, _/_, _%_, _≤_, _<_, max}
 use native.Mathlib.Nat.{mod-lt, div-add-mod}
@@ -9,7 +9,7 @@ use native.Mathlib.Decide.{map-dec, ℕ-discrete, decLe, decLt}
 use native.Mathlib.Omega.{arith}
 use lib.ListN.{length, set, length-set}
 use lib.Seq.{getD-set-same, getD-set-other, ext-getD}
-use Rattle.distances.specs.Area.{cellAt, Written, New}
+use Rattle.distances.specs.Area.{cellAt, Written, Line, New}
 
 abbrev pub Asked : Type 1
 Asked = ℕ → ℕ → Type 0
@@ -20,6 +20,17 @@ Narrow asked = (i j : ℕ) → asked i j → j < 128
 -- One cell.
 abbrev pub Cell : ℕ → ℕ → Asked
 Cell i j a b = (a ≡ i) × (b ≡ j)
+
+-- A place of the distance area is a cell of t types, or none of theirs.
+pub cell-or-not : (t p : ℕ) → t ≤ 128 →
+    ((i : ℕ) × (j : ℕ) × (i < t) × (j < t) × (p ≡ 128 * i + j)) ⊎ ((i j : ℕ) → i < t → j < t → p ≢ 128 * i + j)
+cell-or-not t p few = elim (decLt (p / 128) t) [
+  | yes h ↦ elim (decLt (p % 128) t) [
+    | yes l ↦ inl (p / 128, p % 128, h, l, omega arith)
+    | no f ↦ inr (λ i j a b e. omega arith)
+  ]
+  | no f ↦ inr (λ i j a b e. omega arith)
+]
 
 -- A cell that was not asked for is as it was.
 pub cell-kept : {asked : Asked} {f : ℕ → ℕ → ℕ} {before after : List ℕ} → Written asked f before after → Narrow asked →
@@ -86,18 +97,25 @@ written-once {asked} {f} {before} {a} {b} narrow dec w x = ext-getD 0 a b (w .si
       | no other ↦ cell-kept w narrow i j h other ∙ sym (cell-kept x narrow i j h other)
     ]
 
--- The cells of column j in the first n lines, and those of one line more. Up to line j they are the new pairs of type j alone.
-abbrev pub Upto : ℕ → ℕ → Asked
-Upto n j a b = (a < n) × (b ≡ j)
+-- One cell more of a line.
+pub line-more : (a n i j : ℕ) → (Line a n i j ⊎ Cell a n i j) ↔ Line a (n + 1) i j
+line-more a n i j = (
+  ⊎-elim (λ t. (t .0, omega arith)) (λ t. (t .0, omega arith)),
+  λ t. elim (decLt j n) [ yes l ↦ inl (t .0, l) | no other ↦ inr (t .0, omega arith) ],
+)
 
-pub upto-more : (n j a b : ℕ) → (Upto n j a b ⊎ Cell n j a b) ↔ Upto (n + 1) j a b
-upto-more n j a b = (
+-- The cells of column j in the first n lines, and those of one line more. Up to line j they are the new pairs of type j alone.
+abbrev pub Column : ℕ → ℕ → Asked
+Column n j a b = (a < n) × (b ≡ j)
+
+pub column-more : (n j a b : ℕ) → (Column n j a b ⊎ Cell n j a b) ↔ Column (n + 1) j a b
+column-more n j a b = (
   ⊎-elim (λ t. (omega arith, t .1)) (λ t. (omega arith, t .1)),
   λ t. elim (decLt a n) [ yes l ↦ inl (l, t .1) | no other ↦ inr (omega arith, t .1) ],
 )
 
-pub upto-new : (j a b : ℕ) → Upto j j a b ↔ New j (j + 1) a b
-upto-new j a b = (
+pub column-new : (j a b : ℕ) → Column j j a b ↔ New j (j + 1) a b
+column-new j a b = (
   λ t. record { rising = omega arith; first = omega arith; last = omega arith },
   λ t. (omega (arith, t .rising, t .first, t .last), omega (arith, t .first, t .last)),
 )

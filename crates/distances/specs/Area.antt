@@ -22,6 +22,10 @@ pub record Written (asked : ℕ → ℕ → Type 0) (f : ℕ → ℕ → ℕ) (b
   pub holds : (i j : ℕ) → asked i j → cellAt after i j ≡ f i j
   pub kept : (p : ℕ) → ((i j : ℕ) → asked i j → p ≢ 128 * i + j) → getD after p 0 ≡ getD before p 0
 
+-- The first n cells of line a.
+abbrev pub Line : ℕ → ℕ → ℕ → ℕ → Type 0
+Line a n i j = (i ≡ a) × (j < n)
+
 -- Weights as the code holds them: 64 of them, none over 1,000.
 pub record Weighed (ws : List ℕ) : Type 0 where
   pub size : length ws ≡ 64

@@ -5,7 +5,7 @@
 use mathlib.Core.Path.{_≡_, refl, sym, ap, _∙_}
 use mathlib.Core.Logic.{_↔_, _⊎_, inl, inr, ⊎-elim, ⊎-map, _≢_}
 use mathlib.Core.Bool.{Bool, true, false, cond, not, _&&_, _||_, and-eq-true-iff, false≢true}
-use mathlib.Core.List.{List, [], _∷_, _++_, map, append-assoc, append-nil}
+use mathlib.Core.List.{List, [], _∷_, _++_, map, map-append, append-assoc, append-nil}
 use Prim.Native.Nat.{ℕ, zero, suc, _+_, _*_, _≤_, _<_}
 use native.Mathlib.Nat.{add-zero, add-suc, suc-mul, not-suc-le-zero}
 use native.Mathlib.Numerals.{add-one}
@@ -327,6 +327,17 @@ length-only false x = refl
 -- As many are kept as pass.
 pub length-kept : {A : Type 0} (n : ℕ) (p : ℕ → Bool) (f : ℕ → A) → length (gather n (λ i. only (p i) (f i))) ≡ count n p
 length-kept n p f = length-gather n _ ∙ sum-ext n _ _ (λ i h. length-only (p i) (f i))
+
+-- What is made of those kept is made of them one by one.
+pub map-kept : {A B : Type 0} (f : A → B) (n : ℕ) (p : ℕ → Bool) (g : ℕ → A) →
+    map f (gather n (λ i. only (p i) (g i))) ≡ gather n (λ i. only (p i) (f (g i)))
+unfolding gather
+map-kept f zero p g = refl
+map-kept f (suc n) p g = map-append f (gather n (λ i. only (p i) (g i))) (only (p n) (g n)) ∙ rw (map-kept f n p g, one (p n) (g n))
+  where
+    one : (t : Bool) (x : _) → map f (only t x) ≡ only t (f x)
+    one true x = refl
+    one false x = refl
 
 -- How many of a list's elements pass, by their places: of two lists one behind the other, of a gather, and of what is kept.
 module _ {A : Type 0} (p : A → Bool) (d : A) where

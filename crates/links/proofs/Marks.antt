@@ -11,22 +11,13 @@ use borrow.Author.Tests.{le-leb, lt-leb}
 use Rattle.graph.specs.Spans.{spans, feasible}
 use Rattle.graph.proofs.Feasibility.{feasible-back}
 use Rattle.graph.proofs.Spans.{feasible-is}
-use Rattle.distances.specs.Area.{cellAt, Written}
-use Rattle.distances.proofs.Area.{Asked, Narrow, Cell, cell-kept, written-as, written-both, written-more, written-once}
+use Rattle.distances.specs.Area.{cellAt, Written, Line}
+use Rattle.distances.proofs.Area.{Asked, Narrow, cell-kept, line-more, written-as, written-both, written-more, written-once}
 use Rattle.spans.specs.Tree.{between, Mirror, spanOf}
 use Rattle.spans.proofs.Growing.{between-sym}
 use Rattle.links.specs.Marks.{mark, LinksFound}
 
--- The first n cells of line j, and one cell more; the mirror cells of n types, and those of one type more.
-abbrev pub Line : ℕ → ℕ → Asked
-Line j n a b = (a ≡ j) × (b < n)
-
-line-more : (j n a b : ℕ) → (Line j n a b ⊎ Cell j n a b) ↔ Line j (n + 1) a b
-line-more j n a b = (
-  ⊎-elim (λ t. (t .0, omega arith)) (λ t. (t .0, omega arith)),
-  λ t. elim (decLt b n) [ yes l ↦ inl (t .0, l) | no other ↦ inr (t .0, omega arith) ],
-)
-
+-- The mirror cells of one type more.
 mirror-more : (n a b : ℕ) → (Mirror n a b ⊎ Line n n a b) ↔ Mirror (n + 1) a b
 mirror-more n a b = (
   ⊎-elim (λ t. (t .0, omega arith)) (λ t. (omega arith, omega arith)),

@@ -4,7 +4,7 @@
 ghost use mathlib.Core.Path.{_≡_};
 ghost use Prim.Native.Nat.{_≤_, _<_};
 ghost use lib.ListN.{length};
-ghost use Rattle.distances.specs.Area.{Written};
+ghost use Rattle.distances.specs.Area.{Written, Line};
 ghost use Rattle.spans.specs.Tree.{Mirror};
 ghost use Rattle.links.specs.Marks.{marked, markCount, mark, LinksFound};
 use spans::mirrored;
@@ -13,7 +13,7 @@ use spans::spans;
 // The marks of type j and the types before it.
 fn mark_line(area: &mut [u16], epsilon: usize, j: usize)
     requires { ⌜ (epsilon ≤ 65535) × (j < 128) × (16384 ≤ length (now area)) ⌝ }
-    ensures { λ _. ⌜ Written (λ a b. (a ≡ j) × (b < j)) (mark epsilon (now (area .entry))) (now (area .entry)) (now (area .exit)) ⌝ }
+    ensures { λ _. ⌜ Written (Line j j) (mark epsilon (now (area .entry))) (now (area .entry)) (now (area .exit)) ⌝ }
 {
     let mut i = 0;
     while i < j {

@@ -21,13 +21,14 @@ use Rattle.rules.proofs.Ends.{purges}
 use Rattle.memory.proofs.Placed.{placed-padded}
 use Rattle.types.specs.State.{laid, rowIn, nodesIn}
 use Rattle.types.proofs.State.{row-back, row-of, kinds-at}
+use Rattle.distances.proofs.Area.{cell-or-not}
 use Rattle.links.specs.Marks.{Tells}
 use Rattle.links.proofs.Marks.{same-mark}
 use Rattle.purge.specs.State.{epsilonOf}
 use Rattle.purge.specs.Holds.{Holds, Purged, runIn}
 use Rattle.purge.specs.declared.Held.{Held}
 use Rattle.purge.proofs.Told.{rows-count}
-use Rattle.purge.proofs.Once.{cell-or-not, current-few}
+use Rattle.purge.proofs.Once.{current-few}
 
 -- The run is read back as memory holds it.
 module _ {m : ℕ} {ws : List ℕ} {run : Run} {states : Bytes} {area : List ℕ} {held : Held}

@@ -1,9 +1,9 @@
 -- One purge: memory that holds a run and tells its links holds the run after all obsolete types went together.
 use mathlib.Core.Path.{_≡_, sym, ap, ap₂, _∙_}
-use mathlib.Core.Logic.{_≢_, _⊎_, inl, inr, ⊎-elim}
+use mathlib.Core.Logic.{_≢_, _⊎_, inr, ⊎-elim}
 use mathlib.Core.Bool.{Bool, false, not, _&&_, and-eq-true-iff, Bool·not-not}
 use mathlib.Core.List.{List, [], _++_}
-use Prim.Native.Nat.{ℕ, _+_, _*_, _/_, _%_, _≤_, _<_}
+use Prim.Native.Nat.{ℕ, _+_, _*_, _≤_, _<_}
 use native.Mathlib.Omega.{arith}
 use native.Mathlib.Decide.{decLt}
 use lib.Dec.{ltb}
@@ -11,7 +11,7 @@ use lib.ListN.{length, getD, drop, length-append, length-map, length-replicate, 
 use lib.Seq.{drop-at}
 use borrow.Author.Tests.{ltb-true, lt-ltb}
 use Rattle.graph.specs.Below.{table, gather, only}
-use Rattle.graph.proofs.Below.{In, in-append, in-gather, in-only, in-at, each-place, gather-ext, length-table, getD-table, is-false}
+use Rattle.graph.proofs.Below.{In, in-append, in-gather, in-only, in-at, each-place, gather-ext, length-table, getD-table, is-false, map-kept}
 use Rattle.rules.specs.Job.{Bytes, Row}
 use Rattle.rules.specs.Distance.{distance}
 use Rattle.rules.specs.Types.{Node, rowAt, rowsOf, nodeAt}
@@ -23,6 +23,7 @@ use Rattle.rules.proofs.Keeps.{made-count, made-once}
 use Rattle.types.specs.State.{laid, blank, kindOf}
 use Rattle.types.proofs.State.{OfWidth, length-laid, row-of, kinds-at, kinds-is}
 use Rattle.distances.specs.Area.{Measures}
+use Rattle.distances.proofs.Area.{cell-or-not}
 use Rattle.retire.specs.Left.{Chosen, isKept}
 use Rattle.retire.proofs.Kept.{kept-gather}
 use Rattle.retire.proofs.Laid.{parted-laid}
@@ -31,19 +32,8 @@ use Rattle.purge.specs.Stay.{staying, Stays, Once}
 use Rattle.purge.specs.Holds.{Holds}
 use Rattle.purge.specs.declared.Held.{Held}
 use Rattle.purge.specs.declared.Stay.{Stay}
-use Rattle.purge.proofs.Places.{map-kept, stays-chosen, stays-kept}
+use Rattle.purge.proofs.Places.{stays-chosen, stays-kept}
 use Rattle.purge.proofs.Told.{staying-is}
-
--- A place of the distance area is a cell of t types, or none of theirs.
-pub cell-or-not : (t p : ℕ) → t ≤ 128 →
-    ((i : ℕ) × (j : ℕ) × (i < t) × (j < t) × (p ≡ 128 * i + j)) ⊎ ((i j : ℕ) → i < t → j < t → p ≢ 128 * i + j)
-cell-or-not t p few = elim (decLt (p / 128) t) [
-  | yes h ↦ elim (decLt (p % 128) t) [
-    | yes l ↦ inl (p / 128, p % 128, h, l, omega arith)
-    | no f ↦ inr (λ i j a b e. omega arith)
-  ]
-  | no f ↦ inr (λ i j a b e. omega arith)
-]
 
 pub current-few : {m : ℕ} {ws : List ℕ} {run : Run} {states : Bytes} {area : List ℕ} {held : Held} → Holds m ws run states area held →
     held .state .types ≤ held .state .made

@@ -1,8 +1,8 @@
 -- The places of those below t that pass a test: they ascend, so what `Stays` holds of them chooses just those that pass.
 use mathlib.Core.Path.{_≡_, refl, sym, _∙_}
 use mathlib.Core.Bool.{Bool, true, false, not}
-use mathlib.Core.List.{List, [], _∷_, _++_, map, map-append, append-nil}
-use Prim.Native.Nat.{ℕ, zero, suc, _+_, _≤_, _<_}
+use mathlib.Core.List.{List, [], _∷_, _++_, append-nil}
+use Prim.Native.Nat.{ℕ, _+_, _≤_, _<_}
 use native.Mathlib.Nat.{not-suc-le-zero}
 use native.Mathlib.Omega.{arith}
 use lib.ListN.{length, getD, set, length-append, length-set, List·getD-append}
@@ -14,17 +14,6 @@ use Rattle.rules.proofs.Ascending.{Ascending, ascending-only, ascending-gather,
 use Rattle.retire.specs.Left.{Chosen, isKept}
 use Rattle.purge.specs.Stay.{Stays}
 use Rattle.purge.specs.declared.Stay.{Stay}
-
--- What is made of a gather's elements is made of them one by one.
-pub map-kept : {A B : Type 0} (f : A → B) (n : ℕ) (p : ℕ → Bool) (g : ℕ → A) →
-    map f (gather n (λ i. only (p i) (g i))) ≡ gather n (λ i. only (p i) (f (g i)))
-unfolding gather
-map-kept f zero p g = refl
-map-kept f (suc n) p g = map-append f (gather n (λ i. only (p i) (g i))) (only (p n) (g n)) ∙ rw (map-kept f n p g, one (p n) (g n))
-  where
-    one : (t : Bool) (x : _) → map f (only t x) ≡ only t (f x)
-    one true x = refl
-    one false x = refl
 
 module _ (t : ℕ) (p : ℕ → Bool) where
   abbrev pub places : List ℕ

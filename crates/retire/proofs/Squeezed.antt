@@ -10,23 +10,14 @@ use borrow.Author.Tests.{ltb-true, lt-ltb}
 use lib.Dec.{ltb}
 use lib.ListN.{length, getD, set}
 use Rattle.graph.proofs.Below.{is-false}
-use Rattle.distances.specs.Area.{cellAt, Written}
-use Rattle.distances.proofs.Area.{Asked, Narrow, Cell, cell-kept, written-as, written-both, written-more}
+use Rattle.distances.specs.Area.{cellAt, Written, Line}
+use Rattle.distances.proofs.Area.{Asked, Narrow, cell-kept, line-more, written-as, written-both, written-more}
 use Rattle.retire.specs.Left.{Chosen, squeezed}
 use Rattle.retire.proofs.Kept.{at-least}
 
--- The first n cells of line a, and the cells of t types in the first n lines.
-abbrev pub Line : ℕ → ℕ → Asked
-Line a n i j = (i ≡ a) × (j < n)
-
+-- The cells of t types in the first n lines, and in one line more.
 abbrev pub Lines : ℕ → ℕ → Asked
 Lines n t i j = (i < n) × (j < t)
-
-line-more : (a n i j : ℕ) → (Line a n i j ⊎ Cell a n i j) ↔ Line a (n + 1) i j
-line-more a n i j = (
-  ⊎-elim (λ t. (t .0, omega arith)) (λ t. (t .0, omega arith)),
-  λ t. elim (decLt j n) [ yes l ↦ inl (t .0, l) | no other ↦ inr (t .0, omega arith) ],
-)
 
 lines-more : (n t i j : ℕ) → (Lines n t i j ⊎ Line n t i j) ↔ Lines (n + 1) t i j
 lines-more n t i j = (

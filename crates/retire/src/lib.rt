@@ -7,7 +7,7 @@ ghost use Prim.Native.Nat.{_+_, _*_, _≤_, _<_};
 ghost use lib.ListN.{length};
 ghost use Rattle.types.specs.State.{storedAt};
 ghost use Rattle.memory.specs.Placed.{placed};
-ghost use Rattle.distances.specs.Area.{Written};
+ghost use Rattle.distances.specs.Area.{Written, Line};
 ghost use Rattle.retire.specs.Left.{Chosen, Among, squeezed, KindsLeft, rowsFrom, parted};
 use memory::copy;
 use rules::Kind;
@@ -16,7 +16,7 @@ use types::no_kinds;
 // Line a of t types of which some stay.
 fn line_left(area: &mut [u16], kept: &[usize], count: usize, t: usize, a: usize)
     requires { ⌜ Chosen (now kept) count t × (a < t) × (t ≤ 128) × (16384 ≤ length (now area)) ⌝ }
-    ensures { λ _. ⌜ Written (λ i j. (i ≡ a) × (j < t)) (squeezed (now (kept .entry)) count (now (area .entry))) (now (area .entry)) (now (area .exit)) ⌝ }
+    ensures { λ _. ⌜ Written (Line a t) (squeezed (now (kept .entry)) count (now (area .entry))) (now (area .entry)) (now (area .exit)) ⌝ }
 {
     let mut b = 0;
     while b < t {

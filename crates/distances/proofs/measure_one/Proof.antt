@@ -3,12 +3,12 @@ use mathlib.Core.Path.{_≡_, refl}
 use Prim.Native.Nat.{_-_, _≤_}
 use native.Mathlib.Omega.{arith}
 use Rattle.distances.specs.Area.{Written, storedApart}
-use Rattle.distances.proofs.Area.{Upto, upto-more, upto-new, none-written, written-as, written-more}
+use Rattle.distances.proofs.Area.{Column, column-more, column-new, none-written, written-as, written-more}
 use Rattle.distances.proofs.measure_one.Statement.{statement}
 use Rattle.distances.proofs.measure_one.Tie as tie
 
 abbrev Inv-loop : tie.InvT-loop
-Inv-loop states area₀ weights j i₀ area i = (i ≤ j) × Written (Upto i j) (storedApart weights states) area₀ area
+Inv-loop states area₀ weights j i₀ area i = (i ≤ j) × Written (Column i j) (storedApart weights states) area₀ area
 
 abbrev μ-loop : tie.MeasureT-loop
 μ-loop states area₀ weights j i₀ area i = j - i
@@ -43,7 +43,7 @@ loop-again c =
     let s = l .before .before .before .before in
     let j = s .args .j in (
       omega arith,
-      written-more (l .loop .inv .1) (λ a b t. omega arith) (l .loop .i) j _ (upto-more (l .loop .i) j) (omega arith)
+      written-more (l .loop .inv .1) (λ a b t. omega arith) (l .loop .i) j _ (column-more (l .loop .i) j) (omega arith)
           (c .distance .ensures),
     )
 
@@ -55,7 +55,7 @@ returns c =
     let l = c .before in
     let j = l .before .before .before .before .args .j in
     let e : l .loop .i ≡ j = omega arith in
-    written-as (rw e at (l .loop .inv .1)) (upto-new j) (λ a b t. refl)
+    written-as (rw e at (l .loop .inv .1)) (column-new j) (λ a b t. refl)
 
 pub measure-one-spec : {M : Type 1} → statement M
 measure-one-spec =

@@ -3,10 +3,10 @@ use mathlib.Core.Path.{_≡_}
 use mathlib.Core.Logic.{⊎-elim}
 use Prim.Native.Nat.{_+_, _*_, _-_, _≤_, _<_}
 use native.Mathlib.Omega.{arith}
-use Rattle.distances.specs.Area.{Written}
+use Rattle.distances.specs.Area.{Written, Line}
 use Rattle.distances.proofs.Area.{none-written}
 use Rattle.links.specs.Marks.{mark}
-use Rattle.links.proofs.Marks.{Line, mark-one, mark-zero, cell-marked}
+use Rattle.links.proofs.Marks.{mark-one, mark-zero, cell-marked}
 use Rattle.links.proofs.mark_line.Statement.{statement}
 use Rattle.links.proofs.mark_line.Tie as tie
 

@@ -7,10 +7,10 @@ use native.Mathlib.Nat.{not-suc-le-zero}
 use native.Mathlib.Omega.{arith}
 use borrow.Author.Tests.{ltb-true, ltb-false}
 use lib.ListN.{getD}
-use Rattle.distances.specs.Area.{Written}
+use Rattle.distances.specs.Area.{Written, Line}
 use Rattle.distances.proofs.Area.{none-written}
 use Rattle.retire.specs.Left.{squeezed}
-use Rattle.retire.proofs.Squeezed.{Line, distance-stored, zero-stored}
+use Rattle.retire.proofs.Squeezed.{distance-stored, zero-stored}
 use Rattle.retire.proofs.line_left.Statement.{statement}
 use Rattle.retire.proofs.line_left.Tie as tie
 
