@@ -305,15 +305,6 @@ count-one n p k h e u = sum-one n (λ i. cond (p i) 1 0) k h (λ i l ne. rw (is-
 pub count-all : (n : ℕ) (p : ℕ → Bool) → ((i : ℕ) → i < n → p i ≡ true) → count n p ≡ n
 count-all n p e = omega (arith, count-not n p, count-zero n (λ i. not (p i)) (λ i h. rw (e i h)))
 
--- Where one number more passes, and of the others the same, one more is counted.
-pub count-flip : (n : ℕ) (p q : ℕ → Bool) (k : ℕ) → k < n → p k ≡ false → q k ≡ true → ((i : ℕ) → i < n → i ≢ k → q i ≡ p i) →
-    count n q ≡ count n p + 1
-unfolding sum
-count-flip (suc n) p q k h f t e = elim (ℕ-discrete k n) [
-  | yes s ↦ rw (← s, f, t) (omega (arith, count-ext k q p (λ i l. e i (omega arith) (omega arith))))
-  | no ne ↦ rw (e n (omega arith) (omega arith)) (omega (arith, count-flip n p q k (omega arith) f t (λ i l. e i (omega arith))))
-]
-
 pub count-pos : (n : ℕ) (p : ℕ → Bool) → (1 ≤ count n p) ↔ ((i : ℕ) × (i < n) × (p i ≡ true))
 count-pos n p = (
   λ h. some-true n p .0 (is-true (some n p) (λ e. omega (arith, count-zero n p (some-false n p .0 e)))),

@@ -1,7 +1,7 @@
--- A tree grows over the types from type 0 on. What the code holds of it: for each type the type `by` which it is nearest to the
--- tree, and how near it is; a type that is its own is in the tree.
+-- A tree grows over the types from type 0 on. What the code holds of it: an order of the types, those of the tree first; and for each
+-- type outside the type `by` which it is nearest to the tree, and how near it is.
 use mathlib.Core.Path.{_≡_}
-use mathlib.Core.Logic.{_≢_}
+use mathlib.Core.Logic.{_≢_, _⊎_}
 use mathlib.Core.Bool.{cond}
 use mathlib.Core.List.{List}
 use Prim.Native.Nat.{ℕ, _+_, _*_, _≤_, _<_, min, max}
@@ -24,36 +24,41 @@ Mirror n i j = (j < i) × (i < n)
 abbrev pub spanOf : ℕ → List ℕ → ℕ → ℕ → ℕ
 spanOf n area i j = cell (spans n (between area)) i j
 
-abbrev pub Inside : List ℕ → ℕ → Type 0
-Inside by u = getD by u 0 ≡ u
+-- Each of n types stands at one place of the order.
+pub record Ordered (n : ℕ) (order : List ℕ) : Type 0 where
+  pub size : length order ≡ 128
+  pub place : ℕ → ℕ
+  pub stands : (k : ℕ) → k < n → (getD order k 0 < n) × (place (getD order k 0) ≡ k)
+  pub found : (u : ℕ) → u < n → (place u < n) × (getD order (place u) 0 ≡ u)
 
--- The nearest type that is not in the tree, or n where all are.
-pub record Nearest (near by : List ℕ) (n r : ℕ) : Type 0 where
-  pub within : r ≤ n
-  pub none : r ≡ n → (u : ℕ) → u < n → Inside by u
-  pub outside : r < n → getD by r 0 ≢ r
-  pub least : r < n → (u : ℕ) → u < n → getD by u 0 ≢ u → getD near r 0 ≤ getD near u 0
+-- The first places hold types other than v.
+abbrev pub Others : List ℕ → ℕ → ℕ → Type 0
+Others order size v = (k : ℕ) → k < size → (getD order k 0 < 128) × (getD order k 0 ≢ v)
 
--- The step from v to the tree, and the longest step to v from a type u of the tree.
-abbrev pub stepOf : List ℕ → List ℕ → ℕ → ℕ
-stepOf area by v = between area (getD by v 0) v
+-- The longest step to v from a type u of the tree, where v is nearest to p there.
+abbrev pub reach : List ℕ → ℕ → ℕ → ℕ → ℕ
+reach area p v u = cond (eqb u p) (between area p v) (max (getD area (mirrored u p) 0) (between area p v))
 
-abbrev pub reach : List ℕ → List ℕ → ℕ → ℕ → ℕ
-reach area by v u = cond (eqb u (getD by v 0)) (stepOf area by v) (max (getD area (mirrored u (getD by v 0)) 0) (stepOf area by v))
+-- Type v joins the tree by p: its mirror cells with the types of the tree are written, and no other cell.
+pub record Joined (order : List ℕ) (size v p : ℕ) (before after : List ℕ) : Type 0 where
+  pub area-size : length after ≡ length before
+  pub reached : (k : ℕ) → k < size → getD after (mirrored (getD order k 0) v) 0 ≡ reach before p v (getD order k 0)
+  pub kept : (q : ℕ) → ((k : ℕ) → k < size → q ≢ mirrored (getD order k 0) v) → getD after q 0 ≡ getD before q 0
 
--- Type v joins the tree: its mirror cells with the types of the tree are written, and no other cell.
-pub record Joined (n v : ℕ) (by before after : List ℕ) : Type 0 where
-  pub size : length after ≡ length before
-  pub reached : (u : ℕ) → u < n → Inside by u → getD after (mirrored u v) 0 ≡ reach before by v u
-  pub kept : (p : ℕ) → ((u : ℕ) → u < n → Inside by u → p ≢ mirrored u v) → getD after p 0 ≡ getD before p 0
+-- With v in the tree, a type u outside is nearest by v where v is nearer than the tree was.
+abbrev pub Nearer : ℕ → List ℕ → List ℕ → List ℕ → List ℕ → List ℕ → ℕ → Type 0
+Nearer v area near by near′ by′ u =
+    ((between area u v < getD near u 0) × (getD by′ u 0 ≡ v) × (getD near′ u 0 ≡ between area u v))
+    ⊎ ((getD near u 0 ≤ between area u v) × (getD by′ u 0 ≡ getD by u 0) × (getD near′ u 0 ≡ getD near u 0))
 
--- With v in the tree, a type outside is nearest by v where v is nearer than the tree was.
-pub record Approached (n v : ℕ) (area near by near′ by′ : List ℕ) : Type 0 where
+-- The nearest of the types at the places from `size` to n stands at place r.
+pub record Nearest (order : List ℕ) (size n r : ℕ) (near : List ℕ) : Type 0 where
+  pub from : size ≤ r
+  pub to : r < max n (size + 1)
+  pub least : (k : ℕ) → k < n → size ≤ k → getD near (getD order r 0) 0 ≤ getD near (getD order k 0) 0
+
+-- The types outside, at the places from `size` to n, are approached by v.
+pub record Approached (order : List ℕ) (size n v : ℕ) (area near by near′ by′ : List ℕ) : Type 0 where
   pub near-size : length near′ ≡ length near
   pub by-size : length by′ ≡ length by
-  pub joins : Inside by′ v
-  pub stays : (u : ℕ) → u < n → u ≢ v → Inside by u → Inside by′ u
-  pub nearer : (u : ℕ) → u < n → u ≢ v → getD by u 0 ≢ u → between area u v < getD near u 0 →
-      (getD by′ u 0 ≡ v) × (getD near′ u 0 ≡ between area u v)
-  pub as-near : (u : ℕ) → u < n → u ≢ v → getD by u 0 ≢ u → getD near u 0 ≤ between area u v →
-      (getD by′ u 0 ≡ getD by u 0) × (getD near′ u 0 ≡ getD near u 0)
+  pub nearer : (k : ℕ) → k < n → size ≤ k → Nearer v area near by near′ by′ (getD order k 0)

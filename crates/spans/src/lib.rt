@@ -3,11 +3,11 @@
 // them. It reads the distances of the distance area and writes its mirror cells.
 
 ghost use mathlib.Core.Path.{_≡_};
-ghost use Prim.Native.Nat.{_≤_, _<_};
+ghost use Prim.Native.Nat.{ℕ, _≤_, _<_};
 ghost use lib.ListN.{length, getD};
 ghost use mathlib.Core.Logic.{_≢_};
 ghost use Rattle.distances.specs.Area.{Written};
-ghost use Rattle.spans.specs.Tree.{between, mirrored, Mirror, spanOf, Nearest, Joined, Approached};
+ghost use Rattle.spans.specs.Tree.{between, mirrored, Mirror, spanOf, Ordered, Others, Joined, Nearest, Approached};
 
 // The distance of two types.
 pub fn between(area: &[u16], i: usize, j: usize) -> u16
@@ -29,66 +29,76 @@ pub fn mirrored(i: usize, j: usize) -> usize
     if i < j { 128 * j + i } else { 128 * i + j }
 }
 
-// The nearest type outside the tree, or n where there is none.
-fn nearest(near: &[u16], by: &[usize], n: usize) -> usize
-    requires { ⌜ (n ≤ length (now near)) × (n ≤ length (now by)) ⌝ }
-    ensures { λ r. ⌜ Nearest (now (near .entry)) (now (by .entry)) n r ⌝ }
+// The types in their order.
+fn in_order(n: usize) -> [usize; 128]
+    requires { ⌜ n ≤ 128 ⌝ }
+    ensures { λ r. ⌜ (length r ≡ 128) × ((k : ℕ) → k < n → getD r k 0 ≡ k) ⌝ }
 {
-    let mut best = n;
-    let mut u = 0;
-    while u < n {
-        if by[u] != u {
-            if best == n {
-                best = u;
-            } else if near[u] < near[best] {
-                best = u;
+    let mut order = [0usize; 128];
+    let mut k = 0;
+    while k < n {
+        order[k] = k;
+        k += 1;
+    }
+    order
+}
+
+// Type v joins the tree by its nearest type p there: the spans of v and the types of the tree.
+fn join(area: &mut [u16], order: &[usize], size: usize, v: usize, p: usize)
+    requires { ⌜ (v < 128) × (p < 128) × (p ≢ v) × (size ≤ 128) × (length (now order) ≡ 128) × Others (now order) size v
+        × (16384 ≤ length (now area)) ⌝ }
+    ensures { λ _. ⌜ Joined (now (order .entry)) size v p (now (area .entry)) (now (area .exit)) ⌝ }
+{
+    let step = between(area, p, v);
+    let mut k = 0;
+    while k < size {
+        let u = order[k];
+        let mut longest = step;
+        if u != p {
+            let span = area[mirrored(u, p)];
+            if step < span {
+                longest = span;
             }
         }
-        u += 1;
+        area[mirrored(u, v)] = longest;
+        k += 1;
+    }
+}
+
+// Type v is in the tree now: a type outside may be nearest by it. The place of the nearest type outside.
+fn approach(
+    area: &[u16],
+    near: &mut [u16],
+    by: &mut [usize],
+    order: &[usize],
+    size: usize,
+    n: usize,
+    v: usize,
+) -> usize
+    requires { ⌜ (n ≤ 128) × (v < 128) × (length (now near) ≡ 128) × (length (now by) ≡ 128) × Ordered n (now order)
+        × (16384 ≤ length (now area)) ⌝ }
+    ensures { λ r. ⌜ Nearest (now (order .entry)) size n r (now (near .exit))
+        × Approached (now (order .entry)) size n v (now (area .entry)) (now (near .entry)) (now (by .entry))
+        (now (near .exit)) (now (by .exit)) ⌝ }
+{
+    let mut best = size;
+    let mut least = 65535;
+    let mut k = size;
+    while k < n {
+        let u = order[k];
+        let step = between(area, u, v);
+        if step < near[u] {
+            near[u] = step;
+            by[u] = v;
+        }
+        let far = near[u];
+        if far <= least {
+            least = far;
+            best = k;
+        }
+        k += 1;
     }
     best
-}
-
-// Type v joins the tree by its nearest type there: the spans of v and the types of the tree.
-fn join(area: &mut [u16], by: &[usize], n: usize, v: usize)
-    requires { ⌜ (n ≤ 128) × (v < n) × (n ≤ length (now by)) × (getD (now by) v 0 < n) × (getD (now by) v 0 ≢ v) × (16384 ≤ length (now area)) ⌝ }
-    ensures { λ _. ⌜ Joined n v (now (by .entry)) (now (area .entry)) (now (area .exit)) ⌝ }
-{
-    let p = by[v];
-    let step = between(area, p, v);
-    let mut u = 0;
-    while u < n {
-        if by[u] == u {
-            let mut longest = step;
-            if u != p {
-                let span = area[mirrored(u, p)];
-                if step < span {
-                    longest = span;
-                }
-            }
-            area[mirrored(u, v)] = longest;
-        }
-        u += 1;
-    }
-}
-
-// Type v is in the tree now: a type outside may be nearest by it.
-fn approach(area: &[u16], near: &mut [u16], by: &mut [usize], n: usize, v: usize)
-    requires { ⌜ (n ≤ 128) × (v < 128) × (128 ≤ length (now near)) × (128 ≤ length (now by)) × (16384 ≤ length (now area)) ⌝ }
-    ensures { λ _. ⌜ Approached n v (now (area .entry)) (now (near .entry)) (now (by .entry)) (now (near .exit)) (now (by .exit)) ⌝ }
-{
-    by[v] = v;
-    let mut u = 0;
-    while u < n {
-        if by[u] != u {
-            let step = between(area, u, v);
-            if step < near[u] {
-                near[u] = step;
-                by[u] = v;
-            }
-        }
-        u += 1;
-    }
 }
 
 // The spans of n types, in their mirror cells.
@@ -98,11 +108,16 @@ pub fn spans(area: &mut [u16], n: usize)
 {
     let mut near = [65535u16; 128];
     let mut by = [0usize; 128];
-    approach(area, &mut near, &mut by, n, 0);
-    let mut v = nearest(&near, &by, n);
-    while v < n {
-        join(area, &by, n, v);
-        approach(area, &mut near, &mut by, n, v);
-        v = nearest(&near, &by, n);
+    let mut order = in_order(n);
+    let mut size = 1;
+    let mut k = approach(area, &mut near, &mut by, &order, 1, n, 0);
+    while size < n {
+        let v = order[k];
+        order[k] = order[size];
+        order[size] = v;
+        let p = by[v];
+        join(area, &order, size, v, p);
+        size += 1;
+        k = approach(area, &mut near, &mut by, &order, size, n, v);
     }
 }

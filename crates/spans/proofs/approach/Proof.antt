@@ -1,94 +1,119 @@
--- `spans::approach` meets its contract: the types passed are nearest by v where v is nearer.
+-- `spans::approach` meets its contract: the types passed are nearest by v where v is nearer, and the nearest of them is known.
 use mathlib.Core.Path.{_≡_, _∙_}
 use mathlib.Core.Logic.{⊎-elim}
-use Prim.Native.Nat.{_-_, _≤_, _<_}
+use Prim.Native.Nat.{_-_, _≤_, _<_, max}
 use native.Mathlib.Omega.{arith}
-use lib.Seq.{getD-set-same}
-use lib.ListN.{length, length-set}
-use Rattle.spans.proofs.Turns.{Approaching, approached-none, approached-all, approached-same, approached-nearer}
+use lib.ListN.{length, getD}
+use Rattle.spans.proofs.Turns.{
+  Passed,
+  passed-same,
+  passed-nearer,
+  Approaching,
+  approached-none,
+  approached-all,
+  approached-this,
+  approached-still,
+}
 use Rattle.spans.proofs.approach.Statement.{statement}
 use Rattle.spans.proofs.approach.Tie as tie
 
 abbrev Inv-loop : tie.InvT-loop
-Inv-loop area near₀ by₀ n v u₀ near by u = (u ≤ n) × Approaching u v area near₀ by₀ near by
+Inv-loop area near₀ by₀ order size n v best₀ least₀ k₀ near by best least k =
+    (size ≤ k) × (k ≤ max n size) × Approaching order size n k v best least area near₀ by₀ near by
 
 abbrev μ-loop : tie.MeasureT-loop
-μ-loop area near₀ by₀ n v u₀ near by u = n - u
+μ-loop area near₀ by₀ order size n v best₀ least₀ k₀ near by best least k = n - k
 
--- Writing keeps the length.
-same : (s : tie.At-loop Inv-loop μ-loop) → length (s .loop .by) ≡ length (s .before .before .before .before .args .by .now)
-same s =
-    let g = s .before .before .before .before .args in
-    s .loop .inv .1 .done .by-size ∙ length-set (g .by .now) (g .v) (g .v)
+-- What is read and written lies within.
+within : (t : tie.In-loop Inv-loop μ-loop) →
+    let g = t .before .before .before .before .before .before .args in
+    (getD (g .order .now) (t .before .loop .k) 0 < 128) × (length (t .before .loop .near) ≡ 128) × (length (t .before .loop .by) ≡ 128)
+within t =
+    let s = t .before .before .before .before .before .before in
+    let d = t .before .loop .inv .2 .done in
+    (omega (arith, s .pre .4 .stands _ (t .loop-test .taken) .0), d .near-size ∙ s .pre .2, d .by-size ∙ s .pre .3)
 
-mul-by : tie.Need-mul-by Inv-loop μ-loop
-mul-by c = omega arith
-
-slice-write-by : tie.Need-slice-write-by Inv-loop μ-loop
-slice-write-by c = omega arith
+-- The type at the place passed is approached by v.
+passed : (j : tie.Joined1 Inv-loop μ-loop) →
+    let t = j .before .before .before .before in
+    let g = t .before .before .before .before .before .before .args in
+    let l = t .before .loop in
+    Passed (g .v) (getD (g .order .now) (l .k) 0) (g .area .now) (l .near) (l .by) (j .if1 .near) (j .if1 .by)
+passed j =
+    let h = within (j .before .before .before .before) in
+    let step = j .before .before .between .ensures in
+    ⊎-elim
+    (λ w. rw (w .1, w .2) (passed-nearer (omega arith) (omega arith) step (w .0 .taken)))
+    (λ w. rw (w .1, w .2) (passed-same (rw (← step) (w .0 .left))))
+    (j .if1 .came)
 
 loop-holds : tie.Need-loop-holds Inv-loop μ-loop
-loop-holds c =
-    let g = c .before .before .before .args in (omega arith, approached-none (getD-set-same (g .by .now) (g .v) (g .v) 0 (omega arith)))
+loop-holds c = (omega arith, omega arith, approached-none)
 
-mul-if1 : tie.Need-mul-if1 Inv-loop μ-loop
-mul-if1 c = omega arith
+mul-u : tie.Need-mul-u Inv-loop μ-loop
+mul-u c = omega arith
 
-slice-read-if1 : tie.Need-slice-read-if1 Inv-loop μ-loop
-slice-read-if1 c = omega (arith, same (c .before .before))
+shared-slice-read-u : tie.Need-shared-slice-read-u Inv-loop μ-loop
+shared-slice-read-u c = omega (arith, c .before .before .before .before .before .before .before .pre .4 .size)
 
 between-requires : tie.Need-between-requires Inv-loop μ-loop
-between-requires c κs = omega arith
+between-requires c κs = omega (arith, within (c .before))
 
-mul-if2 : tie.Need-mul-if2 Inv-loop μ-loop
-mul-if2 c = omega arith
+mul-if1 : tie.Need-mul-if1 Inv-loop μ-loop
+mul-if1 c = omega (arith, within (c .before .before))
 
-slice-read-if2 : tie.Need-slice-read-if2 Inv-loop μ-loop
-slice-read-if2 c = omega arith
+slice-read-if1 : tie.Need-slice-read-if1 Inv-loop μ-loop
+slice-read-if1 c = omega (arith, within (c .before .before .before))
 
 mul-near : tie.Need-mul-near Inv-loop μ-loop
-mul-near c = omega arith
+mul-near c = omega (arith, within (c .before .before .before .before))
 
 slice-write-near : tie.Need-slice-write-near Inv-loop μ-loop
-slice-write-near c = omega arith
+slice-write-near c = omega (arith, within (c .before .before .before .before))
 
-mul-by-2 : tie.Need-mul-by-2 Inv-loop μ-loop
-mul-by-2 c = omega arith
+mul-by : tie.Need-mul-by Inv-loop μ-loop
+mul-by c = omega (arith, within (c .before .before .before .before))
 
-slice-write-by-2 : tie.Need-slice-write-by-2 Inv-loop μ-loop
-slice-write-by-2 c = omega (arith, same (c .before .before .before .before .before .before))
+slice-write-by : tie.Need-slice-write-by Inv-loop μ-loop
+slice-write-by c = omega (arith, within (c .before .before .before .before))
 
-add-u : tie.Need-add-u Inv-loop μ-loop
-add-u c = omega arith
+mul-far : tie.Need-mul-far Inv-loop μ-loop
+mul-far c = omega (arith, within (c .before .before .before .before))
+
+slice-read-far : tie.Need-slice-read-far Inv-loop μ-loop
+slice-read-far c = omega (arith, within (c .before .before .before .before .before), passed (c .before) .near-size)
+
+add-k : tie.Need-add-k Inv-loop μ-loop
+add-k c = omega arith
 
 loop-less : tie.Need-loop-less Inv-loop μ-loop
 loop-less c = omega arith
 
 loop-again : tie.Need-loop-again Inv-loop μ-loop
 loop-again c =
-    let l = c .before .before .before in
-    let a = l .loop .inv .1 in
-    let wide : l .loop .u < length (l .loop .by) = omega (arith, same l) in (
+    let j = c .before .before in
+    let t = j .before .before .before .before in
+    let s = t .before .before .before .before .before .before in
+    let o = s .pre .4 in
+    let (from, to, a) = t .before .loop .inv in
+    let h = t .loop-test .taken in
+    let u = getD (s .args .order .now) (t .before .loop .k) 0 in (
+      omega arith,
       omega arith,
       ⊎-elim
-          (λ w. rw (w .4, w .5) (approached-nearer a (omega arith) wide (w .0 .taken) (w .1 .ensures) (w .3 .taken)))
-          (⊎-elim
-          (λ w. rw (w .4, w .5) (approached-same a (λ o. rw (← w .1 .ensures) (w .3 .left))))
-          (λ w. rw (w .1, w .2) (approached-same a (λ o. absurd (o (w .0 .left))))))
-          (c .if1 .came),
+          (λ w. rw (w .1, w .2) (approached-this o h from a (passed j) (w .0 .taken)))
+          (λ w. rw (w .1, w .2) (approached-still o h from a (passed j) (w .0 .left) (omega (arith, c .before .slice-known4 .given u))))
+          (c .if2 .came),
     )
 
 same-length : tie.Need-same-length Inv-loop μ-loop
-same-length c = omega arith
+same-length c = c .before .loop .inv .2 .done .near-size
 
 same-length-2 : tie.Need-same-length-2 Inv-loop μ-loop
-same-length-2 c = same (c .before)
+same-length-2 c = c .before .loop .inv .2 .done .by-size
 
 returns : tie.Need-returns Inv-loop μ-loop
-returns c =
-    let l = c .before .loop in
-    let e : l .u ≡ c .before .before .before .before .before .args .n = omega arith in
-    approached-all (rw e at (l .inv .1))
+returns c = let (_, m, a) = c .before .loop .inv in approached-all (omega arith) m a
 
 pub approach-spec : {M : Type 1} → statement M
 approach-spec =
@@ -96,19 +121,19 @@ approach-spec =
     (tie.spec
     Inv-loop
     μ-loop
-    mul-by
-    slice-write-by
     loop-holds
+    mul-u
+    shared-slice-read-u
+    between-requires
     mul-if1
     slice-read-if1
-    between-requires
-    mul-if2
-    slice-read-if2
     mul-near
     slice-write-near
-    mul-by-2
-    slice-write-by-2
-    add-u
+    mul-by
+    slice-write-by
+    mul-far
+    slice-read-far
+    add-k
     loop-less
     loop-again
     same-length

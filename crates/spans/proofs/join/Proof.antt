@@ -1,25 +1,24 @@
 -- `spans::join` meets its contract: the mirror cells of v and the types passed are written.
 use mathlib.Core.Path.{_≡_, ap, _∙_}
-use mathlib.Core.Logic.{_≢_, ⊎-elim}
-use Prim.Native.Nat.{_-_, _≤_}
+use mathlib.Core.Logic.{⊎-elim}
+use Prim.Native.Nat.{_+_, _-_, _≤_, _<_}
 use native.Mathlib.Omega.{arith}
 use lib.ListN.{getD}
-use Rattle.spans.specs.Tree.{reach, Joined}
-use Rattle.spans.proofs.Turns.{joined-none, reach-near, reach-far, joined-skip, joined-more}
+use Rattle.spans.specs.Tree.{Others, reach, Joined}
+use Rattle.spans.proofs.Turns.{joined-none, reach-near, reach-far, joined-more}
 use Rattle.spans.proofs.join.Statement.{statement}
 use Rattle.spans.proofs.join.Tie as tie
 
 abbrev Inv-loop : tie.InvT-loop
-Inv-loop area₀ by n v p step u₀ area u = (u ≤ n) × Joined u v by area₀ area
+Inv-loop area₀ order size v p step k₀ area k = (k ≤ size) × Joined order k v p area₀ area
 
 abbrev μ-loop : tie.MeasureT-loop
-μ-loop area₀ by n v p step u₀ area u = n - u
+μ-loop area₀ order size v p step k₀ area k = size - k
 
-mul-p : tie.Need-mul-p Inv-loop μ-loop
-mul-p c = omega arith
-
-shared-slice-read-p : tie.Need-shared-slice-read-p Inv-loop μ-loop
-shared-slice-read-p c = omega arith
+-- The type at the place passed.
+typed : (t : tie.In-loop Inv-loop μ-loop) →
+    getD (t .before .before .before .before .before .before .args .order .now) (t .before .loop .k) 0 < 128
+typed t = t .before .before .before .before .before .before .pre .5 (t .before .loop .k) (t .loop-test .taken) .0
 
 between-requires : tie.Need-between-requires Inv-loop μ-loop
 between-requires c κs = omega arith
@@ -27,32 +26,32 @@ between-requires c κs = omega arith
 loop-holds : tie.Need-loop-holds Inv-loop μ-loop
 loop-holds c = (omega arith, joined-none)
 
-mul-if1 : tie.Need-mul-if1 Inv-loop μ-loop
-mul-if1 c = omega arith
+mul-u : tie.Need-mul-u Inv-loop μ-loop
+mul-u c = omega arith
 
-shared-slice-read-if1 : tie.Need-shared-slice-read-if1 Inv-loop μ-loop
-shared-slice-read-if1 c = omega arith
+shared-slice-read-u : tie.Need-shared-slice-read-u Inv-loop μ-loop
+shared-slice-read-u c = omega arith
 
 mirrored-requires : tie.Need-mirrored-requires Inv-loop μ-loop
-mirrored-requires c κs = omega arith
+mirrored-requires c κs = omega (arith, typed (c .before .before))
 
 mul-span : tie.Need-mul-span Inv-loop μ-loop
-mul-span c = omega arith
+mul-span c = omega (arith, typed (c .before .before .before))
 
 slice-read-span : tie.Need-slice-read-span Inv-loop μ-loop
-slice-read-span c = omega arith
+slice-read-span c = omega (arith, typed (c .before .before .before .before))
 
 mirrored-requires-2 : tie.Need-mirrored-requires-2 Inv-loop μ-loop
-mirrored-requires-2 c κs = omega arith
+mirrored-requires-2 c κs = omega (arith, typed (c .before .before))
 
 mul-area : tie.Need-mul-area Inv-loop μ-loop
-mul-area c = omega arith
+mul-area c = omega (arith, typed (c .before .before .before))
 
 slice-write-area : tie.Need-slice-write-area Inv-loop μ-loop
-slice-write-area c = omega arith
+slice-write-area c = omega (arith, typed (c .before .before .before))
 
-add-u : tie.Need-add-u Inv-loop μ-loop
-add-u c = omega arith
+add-k : tie.Need-add-k Inv-loop μ-loop
+add-k c = omega arith
 
 loop-less : tie.Need-loop-less Inv-loop μ-loop
 loop-less c = omega arith
@@ -60,35 +59,29 @@ loop-less c = omega arith
 loop-again : tie.Need-loop-again Inv-loop μ-loop
 loop-again c =
     let t = c .before .before .before in
-    let l = t .loop in
+    let l = t .before .loop in
     let s = t .before .before .before .before .before .before in
-    let j = l .inv .1 in
-    let by = s .args .by .now in
-    let v = s .args .v in
-    let step = t .before .between .ensures in (
-      omega arith,
-      ⊎-elim
-          (λ w.
-          let ne : l .u ≢ v = λ e. s .pre .4 (rw e at (w .0 .taken)) in
-          let far = reach-far j (omega arith) (omega arith) (omega arith) ne (s .pre .4) in
-          let longest : w .1 .longest ≡ reach (s .args .area .now) by v (l .u) = ⊎-elim
-          (λ f. omega (arith, f .3 .taken, f .4, ap (λ q. getD (l .area) q 0) (f .1 .ensures), step, far (f .0 .taken)))
-          (⊎-elim
-          (λ f. omega (arith, f .3 .left, f .4, ap (λ q. getD (l .area) q 0) (f .1 .ensures), step, far (f .0 .taken)))
-          (λ f. f .1 ∙ step ∙ reach-near j (f .0 .left)))
-          (w .1 .came) in
-          rw (w .3, w .2 .ensures) (joined-more j (omega arith) (omega arith) (omega arith) ne (w .0 .taken) longest))
-          (λ w. rw (w .1) (joined-skip j (w .0 .left)))
-          (c .if1 .came),
-    )
+    let (h, j) = l .inv in
+    let others : Others (s .args .order .now) (l .k + 1) (s .args .v) = λ i b. s .pre .5 i (omega (arith, t .loop-test .taken)) in
+    let step = t .before .before .between .ensures in
+    let far = reach-far j (s .pre .0) others (s .pre .1) (s .pre .2) in
+    let longest : c .before .if1 .longest ≡ reach (s .args .area .now) (s .args .p) (s .args .v) (getD (s .args .order .now) (l .k) 0) =
+    ⊎-elim
+    (λ f. omega (arith, f .3 .taken, f .4, ap (λ q. getD (l .area) q 0) (f .1 .ensures), step, far (f .0 .taken)))
+    (⊎-elim
+    (λ f. omega (arith, f .3 .left, f .4, ap (λ q. getD (l .area) q 0) (f .1 .ensures), step, far (f .0 .taken)))
+    (λ f. f .1 ∙ step ∙ reach-near j (s .pre .0) others (f .0 .left)))
+    (c .before .if1 .came)
+    in
+    (omega arith, rw (c .mirrored2 .ensures) (joined-more j (s .pre .0) others (omega arith) longest))
 
 same-length : tie.Need-same-length Inv-loop μ-loop
-same-length c = omega arith
+same-length c = c .before .loop .inv .1 .area-size
 
 returns : tie.Need-returns Inv-loop μ-loop
 returns c =
     let l = c .before .loop in
-    let e : l .u ≡ c .before .before .before .before .before .before .before .args .n = omega arith in
+    let e : l .k ≡ c .before .before .before .before .before .before .args .size = omega arith in
     rw e at (l .inv .1)
 
 pub join-spec : {M : Type 1} → statement M
@@ -97,19 +90,17 @@ join-spec =
     (tie.spec
     Inv-loop
     μ-loop
-    mul-p
-    shared-slice-read-p
     between-requires
     loop-holds
-    mul-if1
-    shared-slice-read-if1
+    mul-u
+    shared-slice-read-u
     mirrored-requires
     mul-span
     slice-read-span
     mirrored-requires-2
     mul-area
     slice-write-area
-    add-u
+    add-k
     loop-less
     loop-again
     same-length
