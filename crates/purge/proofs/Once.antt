@@ -1,6 +1,6 @@
 -- One purge: memory that holds a run and tells its links holds the run after all obsolete types went together.
 use mathlib.Core.Path.{_≡_, sym, ap, ap₂, _∙_}
-use mathlib.Core.Logic.{_≢_, _⊎_, inr, ⊎-elim}
+use mathlib.Core.Logic.{_≢_, ⊎-elim}
 use mathlib.Core.Bool.{Bool, false, not, _&&_, and-eq-true-iff, Bool·not-not}
 use mathlib.Core.List.{List, [], _++_}
 use Prim.Native.Nat.{ℕ, _+_, _*_, _≤_, _<_}
@@ -11,7 +11,7 @@ use lib.ListN.{length, getD, drop, length-append, length-map, length-replicate, 
 use lib.Seq.{drop-at}
 use borrow.Author.Tests.{ltb-true, lt-ltb}
 use Rattle.graph.specs.Below.{table, gather, only}
-use Rattle.graph.proofs.Below.{In, in-append, in-gather, in-only, in-at, each-place, gather-ext, length-table, getD-table, is-false, map-kept}
+use Rattle.graph.proofs.Below.{gather-ext, length-table, getD-table, is-false, map-kept}
 use Rattle.rules.specs.Job.{Bytes, Row}
 use Rattle.rules.specs.Distance.{distance}
 use Rattle.rules.specs.Types.{Node, rowAt, rowsOf, nodeAt}
@@ -26,7 +26,7 @@ use Rattle.distances.specs.Area.{Measures}
 use Rattle.distances.proofs.Area.{cell-or-not}
 use Rattle.retire.specs.Left.{Chosen, isKept}
 use Rattle.retire.proofs.Kept.{kept-gather}
-use Rattle.retire.proofs.Laid.{parted-laid}
+use Rattle.retire.proofs.Laid.{partedRows, parted-wide, parted-laid}
 use Rattle.links.specs.Marks.{Tells}
 use Rattle.purge.specs.Stay.{staying, Stays, Once}
 use Rattle.purge.specs.Holds.{Holds}
@@ -94,10 +94,7 @@ module _ {m : ℕ} {ws : List ℕ} {run : Run} {states : Bytes} {area : List ℕ
   retired-is : drop (length ts) rs ≡ run .retired
   retired-is = drop-at (rowsOf ts) (run .retired) (length ts) (length-map ts _)
 
-  abbrev rowsWhere : (ℕ → Bool) → List Row
-  rowsWhere p = gather (length ts) (λ i. only (p i) (rowAt rs i))
-
-  made-is : made next ≡ rowsWhere keeps ++ (drop (length ts) rs ++ rowsWhere (λ i. not (keeps i)))
+  made-is : made next ≡ partedRows (stay .kept) (stay .count) (length ts) rs
   unfolding purgeOnce
   made-is =
       let stayed = map-kept (λ (t : Node). t .row) (length ts) keeps (nodeAt ts) in
@@ -107,21 +104,8 @@ module _ {m : ℕ} {ws : List ℕ} {run : Run} {states : Bytes} {area : List ℕ
   within : length ts ≤ length rs
   within = omega (arith, made-count run)
 
-  -- Each of them was made before.
-  taken : (p : ℕ → Bool) (r : Row) → In r (rowsWhere p) → In r rs
-  taken p r h =
-      let (i, l, o) = in-gather r (length ts) _ .0 h in
-      rw (in-only r (p i) (rowAt rs i) .0 o .1) (in-at rs i [] (omega (arith, within)))
-
-  made-before : (r : Row) → In r (made next) → In r rs
-  made-before r h = ⊎-elim (taken keeps r)
-      (λ g. ⊎-elim (λ d. in-append r (rowsOf ts) (run .retired) .1 (inr (rw retired-is at d))) (taken (λ i. not (keeps i)) r)
-      (in-append r (drop (length ts) rs) _ .0 g))
-      (in-append r (rowsWhere keeps) _ .0 (rw made-is at h))
-
   widths : OfWidth m (made next)
-  widths = each-place (λ r. length r ≡ m) (made next) [] .1
-      (λ r h. each-place (λ r. length r ≡ m) rs [] .0 (holds .wide) r (made-before r h))
+  widths = rw made-is (parted-wide (stay .kept) (stay .count) (length ts) rs within m (holds .wide))
 
   module _ {states′ : Bytes} {area′ : List ℕ} {held′ : Held} (once : Once states area held stay states′ area′ held′) where
     rows-left : states′ ≡ padded (length states) (laid (made next))

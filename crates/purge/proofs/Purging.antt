@@ -1,14 +1,13 @@
 -- Purging, time after time: what memory holds whenever links were found, and what one time more makes of it.
 use mathlib.Core.Path.{_≡_, refl, sym, ap, _∙_}
-use mathlib.Core.Bool.{true, false}
 use mathlib.Core.List.{List}
 use Prim.Native.Nat.{ℕ, _*_, _≤_, _<_}
 use native.Mathlib.Omega.{arith}
 use lib.ListN.{length}
 use Rattle.rules.specs.Job.{Bytes}
 use Rattle.rules.specs.Types.{rowsOf}
-use Rattle.rules.specs.Purge.{Run, linksOf, purgeOnce, someObsolete, purge, none, again}
-use Rattle.rules.proofs.Ends.{purges, purges-same}
+use Rattle.rules.specs.Purge.{Run, linksOf, purgeOnce, purge}
+use Rattle.rules.proofs.Ends.{purge-again, purge-none}
 use Rattle.memory.proofs.Placed.{length-placed}
 use Rattle.retire.specs.Left.{Chosen, parted}
 use Rattle.retire.proofs.Parted.{parted-size}
@@ -59,14 +58,6 @@ purging-none within full s = record {
   stays = s .stays;
   since = λ m ws run h t. record { after = run; holds = h; tells = t; same = refl };
 }
-
--- One time more changes nothing of what a purge comes to, and where nothing is obsolete it comes to the run itself.
-module _ (ws : List ℕ) (e : ℕ) (run : Run) where
-  purge-again : someObsolete (linksOf ws e run) run ≡ true → purge ws e (purgeOnce (linksOf ws e run) run) ≡ purge ws e run
-  purge-again t = purges-same (again t (purges ws e (purgeOnce (linksOf ws e run) run))) (purges ws e run)
-
-  purge-none : someObsolete (linksOf ws e run) run ≡ false → purge ws e run ≡ run
-  purge-none f = purges-same (purges ws e run) (none f)
 
 module _ {states₀ states : Bytes} {area₀ area : List ℕ} {held now : Held} {stay : Stay}
     (p : Purging states₀ area₀ held states area now stay) where

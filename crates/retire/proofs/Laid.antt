@@ -1,24 +1,24 @@
 -- The state area holds rows one behind the other: parted, it holds the rows that stay, those retired before, and those that go.
-use mathlib.Core.Path.{_≡_, refl, sym, ap, _∙_}
+use mathlib.Core.Path.{_≡_, sym, ap, _∙_}
 use mathlib.Core.Logic.{inr, ⊎-elim}
 use mathlib.Core.Bool.{Bool, not}
-use mathlib.Core.List.{List, [], _∷_, _++_, append-assoc}
+use mathlib.Core.List.{List, [], _++_, append-assoc}
 use Prim.Native.Nat.{ℕ, _+_, _*_, _-_, _≤_}
 use native.Mathlib.Omega.{arith}
-use lib.ListN.{length, take, drop, replicate, take-append-drop, length-append, length-drop, length-replicate}
+use lib.ListN.{length, take, drop, replicate, take-append-drop, length-drop, length-replicate}
 use lib.Seq.{length-take-le, getD-take, getD-drop}
 use Rattle.graph.specs.Below.{gather, given, only}
 use Rattle.graph.proofs.Below.{gather-ext, In, in-at, in-append, in-gather, in-only, each-place}
 use Rattle.rules.specs.Job.{Bytes, Row}
 use Rattle.rules.specs.Types.{rowAt}
 use Rattle.rules.specs.Call.{padded}
-use Rattle.rules.proofs.Block.{length-parts, Stands, stands-in, stands-rear, stands-part}
+use Rattle.rules.proofs.Block.{Stands, stands-in, stands-rear, stands-part}
 use Rattle.memory.specs.Placed.{placed}
 use Rattle.memory.proofs.Placed.{stands-placed, placed-over, length-placed, placed-padded}
 use Rattle.types.specs.State.{stored, storedAt, laid}
 use Rattle.types.proofs.State.{OfWidth, length-laid, laid-both, laid-gather, laid-at}
 use Rattle.retire.specs.Left.{rowsFrom, isKept, parted}
-use Rattle.retire.proofs.Parted.{both-lengths, parted-size}
+use Rattle.retire.proofs.Parted.{parted-size}
 
 -- Of the first t rows those that a test chooses. The rows that stay, the rows retired before, and the rows that go.
 abbrev chosenRows : ℕ → List Row → (ℕ → Bool) → List Row
@@ -27,19 +27,14 @@ chosenRows t rs p = gather t (λ k. only (p k) (rowAt rs k))
 abbrev pub partedRows : List ℕ → ℕ → ℕ → List Row → List Row
 partedRows kept count t rs = chosenRows t rs (isKept kept count) ++ (drop t rs ++ chosenRows t rs (λ k. not (isKept kept count k)))
 
--- They are as many as the rows were, and each is one of them.
+-- Each of them is one of the rows, so their width is kept.
 module _ (kept : List ℕ) (count t : ℕ) (rs : List Row) (l : t ≤ length rs) where
-  pub length-parted : length (partedRows kept count t rs) ≡ length rs
-  length-parted =
-      let n = length-parts 1 t (λ k. rowAt rs k ∷ []) (λ k h. refl) in
-      simp (length-append, length-drop) (omega (arith, both-lengths t (isKept kept count) (λ k. rowAt rs k ∷ [])))
-
   in-chosen : (r : Row) (p : ℕ → Bool) → In r (chosenRows t rs p) → In r rs
   in-chosen r p h =
       let (k, m, i) = in-gather r t (λ k. only (p k) (rowAt rs k)) .0 h in
       rw (in-only r (p k) (rowAt rs k) .0 i .1) (in-at rs k [] (omega arith))
 
-  pub in-parted : (r : Row) → In r (partedRows kept count t rs) → In r rs
+  in-parted : (r : Row) → In r (partedRows kept count t rs) → In r rs
   in-parted r h =
       let gone : ℕ → Bool = λ k. not (isKept kept count k) in
       let behind = drop t rs ++ chosenRows t rs gone in

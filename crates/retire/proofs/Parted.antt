@@ -35,7 +35,7 @@ either-length : {A : Type 0} (t : Bool) (xs : List A) → length (given t xs) + 
 either-length true xs = omega arith
 either-length false xs = omega arith
 
-pub both-lengths : {A : Type 0} (n : ℕ) (p : ℕ → Bool) (f : ℕ → List A) →
+both-lengths : {A : Type 0} (n : ℕ) (p : ℕ → Bool) (f : ℕ → List A) →
     length (gather n (λ k. given (p k) (f k))) + length (gather n (λ k. given (not (p k)) (f k))) ≡ length (gather n f)
 unfolding gather
 both-lengths zero p f = refl

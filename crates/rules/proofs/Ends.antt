@@ -47,6 +47,14 @@ purges-same (none f) (again t q) = absurd (false≢true (sym f ∙ t))
 purges-same (again t p) (none g) = absurd (false≢true (sym g ∙ t))
 purges-same (again t p) (again s q) = purges-same p q
 
+-- One time more changes nothing of what a purge comes to, and where nothing is obsolete it comes to the run itself.
+module _ (ws : List ℕ) (e : ℕ) (run : Run) where
+  pub purge-again : someObsolete (linksOf ws e run) run ≡ true → purge ws e (purgeOnce (linksOf ws e run) run) ≡ purge ws e run
+  purge-again t = purges-same (again t (purges ws e (purgeOnce (linksOf ws e run) run))) (purges ws e run)
+
+  pub purge-none : someObsolete (linksOf ws e run) run ≡ false → purge ws e run ≡ run
+  purge-none f = purges-same (purges ws e run) (none f)
+
 -- More times change nothing.
 pub purge-more : (ws : List ℕ) (e : ℕ) (run : Run) (times : ℕ) → length (run .current) ≤ times → purgeTimes times ws e run ≡ purge ws e run
 purge-more ws e run times l = purges-same (purges-in times ws e run l) (purges ws e run)

@@ -84,7 +84,7 @@ array-read-p : tie.Need-array-read-p Inv-loop μ-loop
 array-read-p c = omega (arith, given c, join-ready (given c .0) (c .loop-test .taken) (next c) .0)
 
 slice-aggregate-join : tie.Need-slice-aggregate-join Inv-loop μ-loop
-slice-aggregate-join c = sym (next (c .before .before) .grown .ordered .size)
+slice-aggregate-join c = search needs
 
 join-requires : tie.Need-join-requires Inv-loop μ-loop
 join-requires c κs =
@@ -104,7 +104,7 @@ slice-aggregate-approach-5 : tie.Need-slice-aggregate-approach-5 Inv-loop μ-loo
 slice-aggregate-approach-5 c = sym (c .before .before .before .before .before .before .before .before .before .loop .inv .0 .by-size)
 
 slice-aggregate-approach-6 : tie.Need-slice-aggregate-approach-6 Inv-loop μ-loop
-slice-aggregate-approach-6 c = sym (next (c .before .before .before .before .before .before .before .before .before) .grown .ordered .size)
+slice-aggregate-approach-6 c = search needs
 
 approach-requires-2 : tie.Need-approach-requires-2 Inv-loop μ-loop
 approach-requires-2 c κs =
