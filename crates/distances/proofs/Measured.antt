@@ -27,7 +27,7 @@ weightless ws u v c e = go (eqb (getD u c 0) (getD v c 0))
     go true = refl
     go false = e
 
-behind-zero : (ws : List ℕ) (n c : ℕ) → c < n → getD (ws ++ replicate n 0) (length ws + c) 0 ≡ 0
+pub behind-zero : (ws : List ℕ) (n c : ℕ) → c < n → getD (ws ++ replicate n 0) (length ws + c) 0 ≡ 0
 behind-zero ws n c h = getD-append-add ws (replicate n 0) c 0 ∙ getD-replicate n c 0 0 h
 
 -- Rows and weights of one width, as they are stored.

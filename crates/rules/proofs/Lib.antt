@@ -5,7 +5,9 @@ pub mod Types
 pub mod Distance
 pub mod Links
 pub mod Median
+pub mod Between
 pub mod Rounds
+pub mod Window
 pub mod Keeps
 pub mod Ends
 pub mod Sound

@@ -20,10 +20,10 @@ abbrev pub OneOf : {A : Type 0} → A → A → A → A → Type 0
 OneOf x a b c = (x ≡ a) ⊎ (x ≡ b) ⊎ (x ≡ c)
 
 -- What a character of weight k costs between two states, and between a state and those of three rows.
-abbrev gap : ℕ → ℕ → ℕ → ℕ
+abbrev pub gap : ℕ → ℕ → ℕ → ℕ
 gap k x y = cond (eqb x y) 0 k
 
-abbrev gaps : ℕ → ℕ → ℕ → ℕ → ℕ → ℕ
+abbrev pub gaps : ℕ → ℕ → ℕ → ℕ → ℕ → ℕ
 gaps k x a b c = gap k x a + gap k x b + gap k x c
 
 module _ (k a b c : ℕ) where
@@ -48,7 +48,7 @@ module _ (k a b c : ℕ) where
 
 module _ (ws : List ℕ) (u v w : Row) where
   -- The cost, summed character by character.
-  by-character : (x : Row) → connection ws x u v w ≡ sum (length ws) (λ c. gaps (getD ws c 0) (getD x c 0) (getD u c 0) (getD v c 0) (getD w c 0))
+  pub by-character : (x : Row) → connection ws x u v w ≡ sum (length ws) (λ c. gaps (getD ws c 0) (getD x c 0) (getD u c 0) (getD v c 0) (getD w c 0))
   unfolding distance
   by-character x =
       let d : Row → ℕ → ℕ = λ y. difference ws x y in
