@@ -1,0 +1,3 @@
+pub mod Sorted
+pub mod Compared
+pub mod Inserted

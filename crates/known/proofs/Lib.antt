@@ -1,0 +1,4 @@
+pub mod Compared
+pub mod Mixed
+pub mod Place
+pub mod Guesses

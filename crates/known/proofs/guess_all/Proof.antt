@@ -1,0 +1,92 @@
+-- `known::guess_all` meets its contract: after i rows, the guesses are those of the first i.
+use mathlib.Core.Path.{_≡_, _∙_}
+use Prim.Native.Nat.{_-_, _≤_}
+use native.Mathlib.Omega.{arith}
+use borrow.Author.Needs.{needs}
+use Rattle.known.specs.Known.{guessesOf}
+use Rattle.known.proofs.Place.{slot-few}
+use Rattle.known.proofs.Guesses.{copied-row, guesses-none, guesses-more}
+use Rattle.known.proofs.guess_all.Statement.{statement}
+use Rattle.known.proofs.guess_all.Tie as tie
+
+abbrev Inv-loop : tie.InvT-loop
+Inv-loop states made guesses₀ i₀ guesses i = (i ≤ made) × (guesses ≡ guessesOf states i)
+
+abbrev μ-loop : tie.MeasureT-loop
+μ-loop states made guesses₀ i₀ guesses i = made - i
+
+loop-holds : tie.Need-loop-holds Inv-loop μ-loop
+loop-holds c = (omega arith, guesses-none _)
+
+mul-from : tie.Need-mul-from Inv-loop μ-loop
+mul-from c = search needs
+
+add-copy : tie.Need-add-copy Inv-loop μ-loop
+add-copy c = search needs
+
+sub-copy : tie.Need-sub-copy Inv-loop μ-loop
+sub-copy c = search needs
+
+part-copy-start : tie.Need-part-copy-start Inv-loop μ-loop
+part-copy-start c = search needs
+
+part-copy-end : tie.Need-part-copy-end Inv-loop μ-loop
+part-copy-end c = search needs
+
+slice-aggregate-copy : tie.Need-slice-aggregate-copy Inv-loop μ-loop
+slice-aggregate-copy c = search needs
+
+copy-requires : tie.Need-copy-requires Inv-loop μ-loop
+copy-requires c κs = search needs
+
+cast-guesses : tie.Need-cast-guesses Inv-loop μ-loop
+cast-guesses c = search needs
+
+slot-requires : tie.Need-slot-requires Inv-loop μ-loop
+slot-requires c κs = search needs
+
+array-write-guesses : tie.Need-array-write-guesses Inv-loop μ-loop
+array-write-guesses c = rw (c .slot .ensures) (slot-few _)
+
+add-i : tie.Need-add-i Inv-loop μ-loop
+add-i c = search needs
+
+loop-less : tie.Need-loop-less Inv-loop μ-loop
+loop-less c = omega arith
+
+loop-again : tie.Need-loop-again Inv-loop μ-loop
+loop-again c =
+    let l = c .before .before .before .before .before .before .before in
+    let states = l .before .before .args .states .now in
+    let at = c .before .before .before .copy .ensures in
+    let i = l .loop .i in
+    let row = at ∙ copied-row states i (omega arith) in
+    (omega arith, rw (c .slot .ensures, row, l .loop .inv .1) (guesses-more states i))
+
+returns : tie.Need-returns Inv-loop μ-loop
+returns c =
+    let l = c .before .loop in
+    let e : l .i ≡ c .before .before .before .args .made = omega (arith, l .inv .0) in
+    rw e at (l .inv .1)
+
+pub guess-all-spec : {M : Type 1} → statement M
+guess-all-spec =
+    tie.close
+    (tie.spec
+    Inv-loop
+    μ-loop
+    loop-holds
+    mul-from
+    add-copy
+    sub-copy
+    part-copy-start
+    part-copy-end
+    slice-aggregate-copy
+    copy-requires
+    cast-guesses
+    slot-requires
+    array-write-guesses
+    add-i
+    loop-less
+    loop-again
+    returns)

@@ -1,0 +1,97 @@
+-- The table of followers is filled: a line from its end to its start, and line after line.
+use mathlib.Core.Path.{_≡_, refl, sym, _∙_}
+use mathlib.Core.Logic.{_≢_}
+use mathlib.Core.Bool.{true, false}
+use mathlib.Core.List.{List}
+use Prim.Native.Nat.{ℕ, _+_, _*_, _≤_, _<_}
+use native.Mathlib.Decide.{ℕ-discrete}
+use native.Mathlib.Omega.{arith}
+use lib.ListN.{length, set, length-set}
+use lib.Seq.{getD-set-same, getD-set-other}
+use Rattle.links.specs.Marks.{marked}
+use Rattle.triplets.specs.Followers.{Follower, followerAt, Followers, FollowLine}
+
+module _ {area : List ℕ} {n c : ℕ} where
+  -- The follower at a place: past the last type, at a type that is linked, and at one that is not.
+  pub follower-none : Follower area n c n n
+  follower-none = record {
+    from = omega arith;
+    within = omega arith;
+    none-between = λ j h l. absurd (omega arith);
+    linked = λ h. absurd (omega arith);
+  }
+
+  pub follower-here : {i : ℕ} → i < n → marked area c i ≡ true → Follower area n c i i
+  follower-here h t = record {
+    from = omega arith;
+    within = omega arith;
+    none-between = λ j g l. absurd (omega arith);
+    linked = λ l. t;
+  }
+
+  pub follower-later : {i j r : ℕ} → i ≡ j + 1 → marked area c j ≡ false → Follower area n c i r → Follower area n c j r
+  follower-later {j = j} e t f = record {
+    from = omega (arith, f .from);
+    within = f .within;
+    none-between = λ k h l. elim (ℕ-discrete k j) [ yes s ↦ rw s t | no other ↦ f .none-between k (omega arith) l ];
+    linked = f .linked;
+  }
+
+-- Line c is filled from place i on.
+pub record Filled (area : List ℕ) (n c : ℕ) (before : List ℕ) (i : ℕ) (next : List ℕ) : Type 0 where
+  pub size : length next ≡ 16512
+  pub line : (k : ℕ) → i ≤ k → k ≤ n → Follower area n c k (followerAt next c k)
+  pub kept : (d k : ℕ) → d ≢ c → k < 129 → followerAt next d k ≡ followerAt before d k
+
+module _ {area : List ℕ} {n c : ℕ} where
+  -- One place more, the one before those filled.
+  pub one-filled : {before next : List ℕ} {i r : ℕ} (j : ℕ) → i ≡ j + 1 → j ≤ n → n ≤ 128 → c < 128 → Filled area n c before i next →
+      Follower area n c j r → Filled area n c before j (set next (129 * c + j) r)
+  one-filled {next = next} {r = r} j e h small l t f = record {
+    size = length-set next (129 * c + j) r ∙ t .size;
+    line = λ k g m. elim (ℕ-discrete k j) [
+      | yes s ↦ rw (s, getD-set-same next (129 * c + j) r 0 (omega (arith, t .size))) f
+      | no other ↦ rw (getD-set-other next (129 * c + j) (129 * c + k) r 0 (λ s. other (omega arith))) (t .line k (omega arith) m)
+    ];
+    kept = λ d k other g.
+        getD-set-other next (129 * c + j) (129 * d + k) r 0 (λ s. other (omega arith)) ∙ t .kept d k other g;
+  }
+
+  -- The place behind the last type is filled first.
+  pub first-filled : {before : List ℕ} → n ≤ 128 → c < 128 → length before ≡ 16512 → Filled area n c before n (set before (129 * c + n) n)
+  first-filled {before} small l room =
+      let none : Filled area n c before (n + 1) before = record { size = room; line = λ k h l. absurd (omega arith); kept = λ d k other h. refl } in
+      one-filled n refl (omega arith) small l none follower-none
+
+  -- What is filled since then, and what was filled before.
+  pub filled-since : {before next : List ℕ} {i : ℕ} → Filled area n c before i next → Filled area n c next i next
+  filled-since t = record { size = t .size; line = t .line; kept = λ d k other h. refl }
+
+  pub filled-then : {before mid next : List ℕ} {i j : ℕ} → Filled area n c before i mid → Filled area n c mid j next → Filled area n c before j next
+  filled-then t s = record { size = s .size; line = s .line; kept = λ d k other h. s .kept d k other h ∙ t .kept d k other h }
+
+  pub all-filled : {before next : List ℕ} {i : ℕ} → i ≤ 0 → length before ≡ 16512 → Filled area n c before i next → FollowLine area n c before next
+  all-filled z room t = record { size = t .size ∙ sym room; line = λ k h. t .line k (omega arith) h; kept = t .kept }
+
+-- The lines before c are filled.
+pub record Lines (area : List ℕ) (n c : ℕ) (next : List ℕ) : Type 0 where
+  pub passed : c ≤ n
+  pub size : length next ≡ 16512
+  pub each : (d i : ℕ) → d < c → i ≤ n → Follower area n d i (followerAt next d i)
+
+pub no-line : (area : List ℕ) (n : ℕ) (next : List ℕ) → length next ≡ 16512 → Lines area n 0 next
+no-line area n next room = record { passed = omega arith; size = room; each = λ d i h l. absurd (omega arith) }
+
+pub one-line : {area : List ℕ} {n c : ℕ} {before after : List ℕ} → c < n → n ≤ 128 → Lines area n c before → FollowLine area n c before after →
+    Lines area n (c + 1) after
+one-line {c = c} h small t f = record {
+  passed = omega arith;
+  size = f .size ∙ t .size;
+  each = λ d i g l. elim (ℕ-discrete d c) [
+    | yes e ↦ rw e (f .line i l)
+    | no other ↦ rw (f .kept d i other (omega arith)) (t .each d i (omega arith) l)
+  ];
+}
+
+pub all-lines : {area : List ℕ} {n c : ℕ} {next : List ℕ} → n ≤ c → Lines area n c next → Followers area n next
+all-lines h t = record { size = t .size; each = λ d i g l. t .each d i (omega (arith, t .passed)) l }

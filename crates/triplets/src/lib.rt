@@ -1,0 +1,76 @@
+// The room of triplets: who is linked with a type, one after the other, and which triplets can have a candidate. It reads the
+// distance area.
+
+ghost use mathlib.Core.Path.{_≡_};
+ghost use Prim.Native.Nat.{_≤_, _<_};
+ghost use lib.ListN.{length};
+ghost use Rattle.triplets.specs.Followers.{FollowLine, Followers};
+ghost use Rattle.triplets.specs.Triplet.{inOrder, canMatter};
+use links::linked;
+
+// Three types, ascending.
+pub struct Triplet {
+    pub u: usize,
+    pub v: usize,
+    pub w: usize,
+}
+
+// Line c of the table: at place i the first type from i on that is linked with type c, or n where none is.
+fn follow(area: &[u16], next: &mut [u16], n: usize, c: usize)
+    requires { ⌜ (n ≤ 128) × (c < 128) × (16384 ≤ length (now area)) × (length (now next) ≡ 16512) ⌝ }
+    ensures { λ _. ⌜ FollowLine (now (area .entry)) n c (now (next .entry)) (now (next .exit)) ⌝ }
+{
+    let line = 129 * c;
+    let mut i = n;
+    let mut follower = n as u16;
+    next[line + i] = follower;
+    while 0 < i {
+        i -= 1;
+        if linked(area, c, i) {
+            follower = i as u16;
+        }
+        next[line + i] = follower;
+    }
+}
+
+// For each of n types, and each place, the first type from there on that is linked with it; 129 places to a type.
+pub fn followers(area: &[u16], n: usize) -> [u16; 16512]
+    requires { ⌜ (n ≤ 128) × (16384 ≤ length (now area)) ⌝ }
+    ensures { λ r. ⌜ Followers (now (area .entry)) n r ⌝ }
+{
+    let mut next = [0u16; 16512];
+    let mut c = 0;
+    while c < n {
+        follow(area, &mut next, n, c);
+        c += 1;
+    }
+    next
+}
+
+// The triplet of types c, a and b, where a is below b.
+pub fn in_order(c: usize, a: usize, b: usize) -> Triplet
+    ensures { λ r. ⌜ r ≡ inOrder c a b ⌝ }
+{
+    if c < a {
+        Triplet { u: c, v: a, w: b }
+    } else if c < b {
+        Triplet { u: a, v: c, w: b }
+    } else {
+        Triplet { u: a, v: b, w: c }
+    }
+}
+
+// Whether a triplet can have a candidate of a cost below this, by its distances: the cost is at least half their sum, and where
+// one type lies between the other two it is their only median vector.
+pub fn can_matter(area: &[u16], t: Triplet, below: usize) -> bool
+    requires { ⌜ (t .u < 128) × (t .v < 128) × (t .w < 128) × (below ≤ 200000) × (16384 ≤ length (now area)) ⌝ }
+    ensures { λ r. ⌜ r ≡ canMatter (now (area .entry)) t below ⌝ }
+{
+    let u = t.u;
+    let v = t.v;
+    let w = t.w;
+    let uv = area[128 * u + v] as usize;
+    let uw = area[128 * u + w] as usize;
+    let vw = area[128 * v + w] as usize;
+    uv + uw + vw < 2 * below && uv + vw != uw && uv + uw != vw && uw + vw != uv
+}
