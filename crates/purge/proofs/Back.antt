@@ -38,7 +38,7 @@ module _ {m : ℕ} {ws : List ℕ} {run : Run} {states : Bytes} {area : List ℕ
       let e = holds .states-are ∙ sym (placed-padded (length states) (laid (made run))) in
       rw e (row-back m (made run) (holds .narrow) (holds .wide) (replicate (length states) 0) i h)
 
-  current-back : nodesIn m (held .state .types) states (held .kinds) ≡ run .current
+  pub current-back : nodesIn m (held .state .types) states (held .kinds) ≡ run .current
   unfolding nodesIn
   current-back =
       let ts = run .current in

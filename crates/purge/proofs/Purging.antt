@@ -38,6 +38,8 @@ pub record Purging (states₀ : Bytes) (area₀ : List ℕ) (held : Held) (state
   pub area-size : length area ≡ length area₀
   pub phase-stays : now .state .phase ≡ held .state .phase
   pub made-stays : now .state .made ≡ held .state .made
+  pub rounds-stay : now .state .rounds ≡ held .state .rounds
+  pub kinds-size : length (held .kinds) ≡ 128 → length (now .kinds) ≡ 128
   pub no-more : now .state .types ≤ held .state .types
   pub within : now .state .types ≤ now .state .made
   pub full : now .state .made ≤ 128
@@ -52,6 +54,8 @@ purging-none within full s = record {
   area-size = refl;
   phase-stays = refl;
   made-stays = refl;
+  rounds-stay = refl;
+  kinds-size = λ h. h;
   no-more = omega arith;
   within = within;
   full = full;
@@ -81,6 +85,8 @@ module _ {states₀ states : Bytes} {area₀ area : List ℕ} {held now : Held} 
       area-size = s .found .size ∙ once .distances-are .size ∙ p .area-size;
       phase-stays = same-phase;
       made-stays = rw (once .state-is) (p .made-stays);
+      rounds-stay = rw (once .state-is) (p .rounds-stay);
+      kinds-size = λ h. once .kinds-are .size;
       no-more = omega (arith, fewer-types, p .no-more);
       within = rw (once .state-is) (omega (arith, p .within));
       full = rw (once .state-is) (p .full);
@@ -113,6 +119,8 @@ module _ {states₀ states : Bytes} {area₀ area : List ℕ} {held now : Held} 
     area-size = p .area-size ∙ s .found .size;
     phase-stays = p .phase-stays;
     made-stays = p .made-stays;
+    rounds-stay = p .rounds-stay;
+    kinds-size = p .kinds-size;
     no-more = p .no-more;
     holds = λ m ws run h. let b = at m ws run h in rw (← ends m ws run h) (b .holds);
     tells = λ m ws run h. let b = at m ws run h in rw (← ends m ws run h) (b .tells);

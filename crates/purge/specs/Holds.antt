@@ -28,13 +28,15 @@ pub record Holds (m : ℕ) (ws : List ℕ) (run : Run) (states : Bytes) (area : 
   pub distances-are : Measures ws (rowsOf (run .current)) area
   pub rest-zero : (p : ℕ) → ((i j : ℕ) → i < length (run .current) → j < length (run .current) → i ≢ j → p ≢ 128 * i + j) → getD area p 0 ≡ 0
 
--- Memory that held a run holds it purged, and tells its links. Whatever it held, the phase and the number of types ever made are
--- as they were, and no type is added.
+-- Memory that held a run holds it purged, and tells its links. Whatever it held, the phase, the rounds and the number of types ever made
+-- are as they were, and no type is added.
 pub record Purged (states : Bytes) (area : List ℕ) (held : Held) (states′ : Bytes) (area′ : List ℕ) (held′ : Held) : Type 0 where
   pub states-size : length states′ ≡ length states
   pub area-size : length area′ ≡ length area
   pub phase-stays : held′ .state .phase ≡ held .state .phase
   pub made-stays : held′ .state .made ≡ held .state .made
+  pub rounds-stay : held′ .state .rounds ≡ held .state .rounds
+  pub kinds-size : length (held .kinds) ≡ 128 → length (held′ .kinds) ≡ 128
   pub no-more : held′ .state .types ≤ held .state .types
   pub holds : (m : ℕ) (ws : List ℕ) (run : Run) → Holds m ws run states area held →
       Holds m ws (purge ws (epsilonOf (held .state .phase)) run) states′ area′ held′

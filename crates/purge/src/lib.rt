@@ -3,10 +3,10 @@
 // area and the distance area.
 
 ghost use mathlib.Core.Path.{_≡_};
-ghost use Prim.Native.Nat.{_≤_, _<_};
+ghost use Prim.Native.Nat.{_+_, _≤_, _<_};
 ghost use lib.ListN.{length};
 ghost use Rattle.retire.specs.Left.{Chosen};
-ghost use Rattle.purge.specs.State.{epsilonOf, keeping};
+ghost use Rattle.purge.specs.State.{epsilonOf, keeping, grown, secondPhase};
 ghost use Rattle.purge.specs.Stay.{neededBy, obsoleteIn, staying, Stays, Once, Surveyed};
 ghost use Rattle.purge.specs.Holds.{Purged};
 use links::find_links;
@@ -49,6 +49,29 @@ impl State {
     {
         self.types = count;
         self
+    }
+
+    // A round added so many types.
+    pub fn grown(mut self, count: usize) -> Self
+        requires { ⌜ (self .types ≤ 128) × (self .made + count ≤ 128) × (self .rounds ≤ 128) ⌝ }
+        ensures { λ r. ⌜ r ≡ grown self count ⌝ }
+    {
+        self.types += count;
+        self.made += count;
+        self.rounds += 1;
+        self
+    }
+
+    // Phase I is over.
+    pub fn second_phase(self) -> Self
+        ensures { λ r. ⌜ r ≡ secondPhase self ⌝ }
+    {
+        State {
+            types: self.types,
+            made: self.made,
+            rounds: self.rounds,
+            phase: Phase::Two,
+        }
     }
 }
 

@@ -1,0 +1,176 @@
+-- From the two sweeps to the rows that a round adds: the first one finds lambda, the least cost of any candidate, and the second one
+-- gathers the candidates of a cost of at most lambda and epsilon, or finds more of them than there is room for.
+use mathlib.Core.Path.{_≡_, refl, sym, _∙_}
+use mathlib.Core.Logic.{_≢_, ⊎-elim}
+use mathlib.Core.Bool.{Bool, true, false, cond, false≢true}
+use mathlib.Core.List.{List, []}
+use Prim.Native.Nat.{ℕ, _+_, _*_, _≤_, _<_}
+use native.Mathlib.Decide.{decLt}
+use native.Mathlib.Omega.{arith}
+use lib.Dec.{ltb}
+use lib.ListN.{length, replicate, length-replicate}
+use borrow.Author.Tests.{lt-ltb, le-ltb}
+use Rattle.graph.specs.Below.{gather}
+use Rattle.rules.specs.Job.{Bytes}
+use Rattle.rules.specs.Call.{padded}
+use Rattle.types.specs.State.{storedAt, laid}
+use Rattle.distances.specs.Area.{Weighed}
+use Rattle.ascending.specs.Sorted.{sorted}
+use Rattle.ascending.proofs.Sorted.{in-sorted, length-sorted, sorted-ascends}
+use Rattle.search.specs.declared.Search.{Search}
+use Rattle.search.specs.Swept.{Gathered, Swept}
+use Rattle.candidates.specs.declared.Added.{Added}
+use Rattle.candidates.specs.Candidate.{Candidate, Faithful, Everywhere, InWindow, All, TooMany, Fresh}
+use Rattle.candidates.proofs.Dropped.{gives-small}
+use Rattle.candidates.proofs.Seated.{candidate-met}
+
+-- Lambda: some candidate costs this, and none costs less.
+pub record IsLambda (ws : List ℕ) (states : Bytes) (area : List ℕ) (n made lambda : ℕ) : Type 0 where
+  pub row : Bytes
+  pub met : Candidate ws states area n made row lambda
+  pub least : (x : Bytes) (cost : ℕ) → Candidate ws states area n made x cost → lambda ≤ cost
+
+-- A cost is small.
+pub candidate-small : {ws : List ℕ} {states : Bytes} {area : List ℕ} {n made : ℕ} → Weighed ws → n ≤ made → 64 * made ≤ length states →
+    {x : Bytes} {cost : ℕ} → Candidate ws states area n made x cost → cost ≤ 128000
+candidate-small weighed few lie k = gives-small weighed lie (k .is-triplet .rising) (omega (arith, k .is-triplet .current)) (k .gives)
+
+-- No candidate, no row.
+none-added : {ws : List ℕ} {states : Bytes} {area : List ℕ} {n made e : ℕ} (r : Added) →
+    ((x : Bytes) (cost : ℕ) → Candidate ws states area n made x cost → ⊥) → r .count ≡ 0 → r .rows ≡ replicate 8192 0 → All ws states area n made e r
+unfolding laid gather
+none-added r nowhere count-is rows-are = record {
+  xs = [];
+  ascends = tt;
+  exact = λ x. (absurd, λ w. nowhere x (w .cost) (w .candidate));
+  count-is = count-is;
+  rows-are = rows-are;
+}
+
+-- So many rows found, and one behind them.
+module _ (found : Bytes) (count : ℕ) (row : Bytes) where
+  unfoldable withLast : ℕ → Bytes
+  withLast k = cond (ltb k count) (storedAt found k) row
+
+  with-last-found : (k : ℕ) → k < count → withLast k ≡ storedAt found k
+  unfolding withLast
+  with-last-found k h = rw (lt-ltb k count h)
+
+  with-last-row : (k : ℕ) → count ≤ k → withLast k ≡ row
+  unfolding withLast
+  with-last-row k h = rw (le-ltb k count h)
+
+-- The two searches as they start: for lambda, above every cost, and for all candidates below a cost.
+abbrev pub looking : ℕ → Search
+looking made = record { below = 128001; made = made; count = 0; gathering = false; full = false }
+
+abbrev pub gathering : ℕ → ℕ → Search
+gathering made below = record { below = below; made = made; count = 0; gathering = true; full = false }
+
+-- What `none` hands back.
+abbrev pub IsNone : Bool → Added → Type 0
+IsNone full r = (r .rows ≡ replicate 8192 0) × (r .count ≡ 0) × (r .full ≡ full)
+
+module _ {ws : List ℕ} {states : Bytes} {area : List ℕ} {n made : ℕ} where
+  -- The first sweep, in which no row is found.
+  module _ {found₀ found₁ : Bytes} {least : Search}
+      (first : Swept (Everywhere ws states area n made n) (Candidate ws states area n made) found₀ (looking made) found₁ least)
+      (none : least .count ≡ 0) where
+    lowest : Faithful ws states area n → (x : Bytes) (cost : ℕ) → Candidate ws states area n made x cost → least .below ≤ cost
+    lowest faithful x cost k =
+        ⊎-elim (λ l. l) (λ d. absurd (omega (arith, d .1))) (first .deals x cost (candidate-met faithful x cost k))
+
+    lambda-found : Faithful ws states area n → least .below ≢ 128001 → IsLambda ws states area n made (least .below)
+    lambda-found faithful lower =
+        ⊎-elim (λ e. absurd (lower e)) (λ g. record { row = g .0; met = g .1; least = lowest faithful }) (first .lowers refl)
+
+    -- There is no candidate.
+    pub fresh-none : (e : ℕ) → Weighed ws → n ≤ made → made ≤ 128 → 64 * made ≤ length states → least .below ≡ 128001 →
+        {r : Added} → IsNone false r → Fresh ws states area n made e r
+    fresh-none e weighed few room lie high {r} (rows-are, count-is, open-is) = record {
+      size = rw rows-are (simp length-replicate);
+      room = omega arith;
+      all = λ faithful _.
+          none-added r (λ x cost k. omega (arith, lowest faithful x cost k, candidate-small weighed few lie k)) count-is rows-are;
+      too-many = λ _ f. absurd (false≢true (sym open-is ∙ f));
+      none-then = λ f. (count-is, rows-are);
+    }
+
+    -- The second sweep.
+    module _ (e : ℕ) (lower : least .below ≢ 128001) {found₂ : Bytes} {all : Search}
+        (second : Swept (Everywhere ws states area n made n) (Candidate ws states area n made) found₁ (gathering made (least .below + e + 1)) found₂ all) where
+      gathered : Gathered (Candidate ws states area n made) found₁ (gathering made (least .below + e + 1)) found₂ all
+      gathered = second .gathers refl
+
+      found-differ : (i k : ℕ) → i < k → k < all .count → storedAt found₂ i ≢ storedAt found₂ k
+      found-differ i k h l = gathered .differ i k h (omega arith) l
+
+      module _ (faithful : Faithful ws states area n) where
+        in-window : (x : Bytes) (cost : ℕ) → Candidate ws states area n made x cost → cost < least .below + e + 1 → InWindow ws states area n made e x
+        in-window x cost k h = record { cost = cost; candidate = k; cheap = λ y other l. omega (arith, lowest faithful y other l) }
+
+        found-in-window : (k : ℕ) → k < all .count → InWindow ws states area n made e (storedAt found₂ k)
+        found-in-window k h = let (cost, c, l) = gathered .newer k (omega arith) h in in-window (storedAt found₂ k) cost c l
+
+        all-gathered : (r : Added) → all .full ≡ false → r .count ≡ all .count → r .rows ≡ padded 8192 (laid (sorted (all .count) (storedAt found₂))) →
+            All ws states area n made e r
+        all-gathered r open-is count-is rows-are = record {
+          xs = sorted (all .count) (storedAt found₂);
+          ascends = sorted-ascends (all .count) (storedAt found₂) found-differ;
+          exact = λ x. (
+            λ h. let (k, l, f) = in-sorted (all .count) (storedAt found₂) x .0 h in rw f (found-in-window k l),
+            λ w.
+                let lambda = lambda-found faithful lower in
+                let cheap = w .cheap (lambda .row) (least .below) (lambda .met) in
+                ⊎-elim
+                (λ dear. absurd (omega (arith, gathered .still-open open-is .1)))
+                (λ d. in-sorted (all .count) (storedAt found₂) x .1 (d .0, d .1, sym (d .2)))
+                (second .deals x (w .cost) (candidate-met faithful x (w .cost) (w .candidate))),
+          );
+          count-is = count-is ∙ sym (length-sorted (all .count) (storedAt found₂));
+          rows-are = rows-are;
+        }
+
+        -- The rows found and the one that found no room are one more than there is room for.
+        crowded : all .full ≡ true → TooMany ws states area n made e
+        crowded full =
+            let c = gathered .crowd refl full in
+            let m = all .count + 1 in
+            let f = withLast found₂ (all .count) (c .row) in
+            let early = with-last-found found₂ (all .count) (c .row) in
+            let late = with-last-row found₂ (all .count) (c .row) in
+            record {
+              xs = sorted m f;
+              ascends = sorted-ascends m f (λ i k h l. elim (decLt k (all .count)) [
+                | yes g ↦ rw (early i (omega arith), early k g) (found-differ i k h g)
+                | no g ↦ rw (early i (omega arith), late k (omega arith)) (c .another i (omega arith))
+              ]);
+              each = λ x h.
+                  let (k, l, is) = in-sorted m f x .0 h in
+                  elim (decLt k (all .count)) [
+                    | yes g ↦ rw (is, early k g) (found-in-window k g)
+                    | no g ↦ rw (is, late k (omega arith)) (in-window (c .row) (c .cost) (c .is-given) (c .matters))
+                  ];
+              no-room = omega (arith, length-sorted m f, c .all-used, second .made-stays);
+            }
+
+      -- There is no room.
+      pub fresh-full : made ≤ 128 → all .full ≡ true → {r : Added} → IsNone true r → Fresh ws states area n made e r
+      fresh-full room full {r} (rows-are, count-is, full-is) = record {
+        size = rw rows-are (simp length-replicate);
+        room = omega arith;
+        all = λ _ f. absurd (false≢true (sym f ∙ full-is));
+        too-many = λ faithful _. crowded faithful full;
+        none-then = λ _. (count-is, rows-are);
+      }
+
+      -- There is room for all.
+      pub fresh-all : all .full ≡ false → {r : Added} → length (r .rows) ≡ 8192 → r .rows ≡ padded 8192 (laid (sorted (all .count) (storedAt found₂))) →
+          r .count ≡ all .count → r .full ≡ false → Fresh ws states area n made e r
+      fresh-all open-is {r} size rows-are count-is full-is = record {
+        size = size;
+        room = omega (arith, second .room, second .made-stays);
+        all = λ faithful _. all-gathered faithful r open-is count-is rows-are;
+        too-many = λ _ f. absurd (false≢true (sym full-is ∙ f));
+        none-then = λ f. absurd (false≢true (sym full-is ∙ f));
+      }

@@ -1,0 +1,4 @@
+pub mod Dropped
+pub mod Seated
+pub mod Walk
+pub mod Chosen

@@ -1,0 +1,4 @@
+pub mod Sweeping
+pub mod Taking
+pub mod Considering
+pub mod Visiting
