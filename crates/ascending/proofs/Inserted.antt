@@ -16,7 +16,7 @@ use Rattle.rules.proofs.Block.{Stands, stands-in, stands-rear, stands-part}
 use Rattle.types.specs.State.{stored, storedAt, laid}
 use Rattle.types.proofs.State.{length-storedAt, OfWidth, laid-both, length-laid, laid-at}
 use Rattle.memory.specs.Placed.{placed}
-use Rattle.memory.proofs.Placed.{stands-placed, placed-over, placed-twice, placed-whole, placed-padded, length-placed}
+use Rattle.memory.proofs.Placed.{stands-placed, placed-over, placed-twice, placed-padded, length-placed}
 use Rattle.ascending.specs.Sorted.{before, put, sorted, placeIn, withRow}
 use Rattle.ascending.proofs.Sorted.{length-sorted, sorted-wide}
 
@@ -124,25 +124,18 @@ module _ (ys : List Row) (wide : (y : Row) → In y ys → length y ≡ 64) wher
         (area-is ∙ ap (placed (replicate 8192 0) 0) parts)
         ∙ rw more (placed-padded 8192 (xs ++ (row ++ zs)))
 
--- Turn by turn: no row, and one more of the rows found, as it is copied.
+-- Turn by turn: no row, and one more of the rows found.
 module _ (found : Bytes) where
   pub sorted-none : replicate 8192 0 ≡ padded 8192 (laid (sorted 0 (storedAt found)))
   unfolding sorted laid gather
   sorted-none = refl
 
   module _ (k : ℕ) (l : 64 * k + 64 ≤ length found) where
-    row-read : (row : Bytes) → row ≡ placed (replicate 64 0) 0 (take (64 * k + 64 - 64 * k) (drop (64 * k) found)) → row ≡ storedAt found k
-    row-read row r =
-        let n : 64 * k + 64 - 64 * k ≡ 64 = omega arith in
-        rw n at r ∙ placed-whole (replicate 64 0) (storedAt found k) (length-storedAt found k l)
-
-    pub sorted-more : (rows row : Bytes) → k < 128 → rows ≡ padded 8192 (laid (sorted k (storedAt found))) →
-        row ≡ placed (replicate 64 0) 0 (take (64 * k + 64 - 64 * k) (drop (64 * k) found)) →
+    pub sorted-more : (rows row : Bytes) → k < 128 → rows ≡ padded 8192 (laid (sorted k (storedAt found))) → row ≡ storedAt found k →
         withRow rows k row ≡ padded 8192 (laid (sorted (k + 1) (storedAt found)))
     unfolding sorted
-    sorted-more rows row h is r =
+    sorted-more rows row h is read =
         let f = storedAt found in
-        let read = row-read row r in
         let wide = sorted-wide k f 64 (λ i g. length-storedAt found i (omega arith)) in
         rw (add-one, ← read)
         (row-inserted (sorted k f) wide rows is k row (sym (length-sorted k f)) h (ap length read ∙ length-storedAt found k l))

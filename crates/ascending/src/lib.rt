@@ -7,6 +7,7 @@ ghost use Rattle.rules.specs.Call.{padded};
 ghost use Rattle.types.specs.State.{storedAt, laid};
 ghost use Rattle.ascending.specs.Sorted.{before, placeIn, withRow, sorted};
 use memory::copy;
+use types::row_at;
 
 // Whether row i stands before a row: the first difference decides.
 fn before(rows: &[u8], i: usize, row: &[u8; 64]) -> bool
@@ -64,9 +65,7 @@ pub fn ascending(found: &[u8], count: usize) -> [u8; 8192]
     let mut rows = [0u8; 8192];
     let mut k = 0;
     while k < count {
-        let from = 64 * k;
-        let mut row = [0u8; 64];
-        copy(&found[from..from + 64], &mut row, 0);
+        let row = row_at(found, k);
         insert(&mut rows, k, &row);
         k += 1;
     }

@@ -7,8 +7,8 @@ ghost use lib.Dec.{ltb};
 ghost use lib.ListN.{length, set};
 ghost use Rattle.rules.specs.Types.{sameRow};
 ghost use Rattle.known.specs.Known.{slotOf, placeOf, rightGuess, guessesOf};
-use memory::copy;
 use types::find_row;
+use types::row_at;
 
 // Whether two rows of 64 bytes are the same. All bytes are compared.
 pub fn alike(a: &[u8], b: &[u8]) -> bool
@@ -97,9 +97,7 @@ pub fn guess_all(states: &[u8], made: usize) -> [u8; 4096]
     let mut guesses = [0u8; 4096];
     let mut i = 0;
     while i < made {
-        let from = 64 * i;
-        let mut row = [0u8; 64];
-        copy(&states[from..from + 64], &mut row, 0);
+        let row = row_at(states, i);
         guesses[slot(&row)] = i as u8;
         i += 1;
     }

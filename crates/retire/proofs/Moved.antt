@@ -3,14 +3,13 @@ use mathlib.Core.Path.{_≡_, refl, sym, ap, _∙_}
 use mathlib.Core.List.{_++_}
 use Prim.Native.Nat.{ℕ, _+_, _*_, _-_, _≤_, _<_}
 use native.Mathlib.Omega.{arith}
-use lib.ListN.{length, getD, take, drop, set, replicate, length-append, length-drop}
+use lib.ListN.{length, getD, take, drop, set, length-append, length-drop}
 use lib.Seq.{length-take-le, getD-drop}
 use Rattle.rules.specs.Job.{Bytes}
 use Rattle.rules.proofs.Block.{Stands, stands-in, stands-front, stands-rear, stands-part}
 use Rattle.types.specs.State.{storedAt}
-use Rattle.types.proofs.State.{length-storedAt}
 use Rattle.memory.specs.Placed.{placed}
-use Rattle.memory.proofs.Placed.{placed-none, stands-placed, getD-placed-behind, placed-over, placed-twice, placed-whole, taken-more, length-placed}
+use Rattle.memory.proofs.Placed.{placed-none, stands-placed, getD-placed-behind, placed-over, placed-twice, taken-more, length-placed}
 use Rattle.retire.specs.Left.{rowsFrom}
 
 -- The bytes from row i on, up to byte c, have moved down by a row.
@@ -36,12 +35,8 @@ module _ (b : Bytes) (i c : ℕ) where
       ∙ ap (λ (p : ℕ). getD b p 0) (sym from) ∙ sym (getD-drop (64 * (i + 1)) b k 0) in
       rw (v, one) (ap (λ (p : ℕ). set now p (getD s k 0)) at ∙ taken-more b s now (64 * i) k (omega arith) (omega arith) e)
 
--- The row as it is read, and put behind all that has moved.
+-- The row, put behind all that has moved.
 module _ (b : Bytes) (i : ℕ) where
-  pub row-read : (row : Bytes) (n : ℕ) → n ≡ 64 → 64 * i + 64 ≤ length b → row ≡ placed (replicate 64 0) 0 (take n (drop (64 * i) b)) →
-      row ≡ storedAt b i
-  row-read row n e h r = rw e at r ∙ placed-whole (replicate 64 0) (storedAt b i) (length-storedAt b i h)
-
   pub row-behind : (now row : Bytes) (made : ℕ) → i < made → 64 * made ≤ length b → now ≡ moved b i (64 * made - 64) →
       placed now (64 * made - 64) row ≡ placed b (64 * i) (rowsFrom b (i + 1) made ++ row)
   row-behind now row made h l e =

@@ -12,6 +12,7 @@ ghost use Rattle.retire.specs.Left.{Chosen, Among, squeezed, KindsLeft, 
 use memory::copy;
 use rules::Kind;
 use types::no_kinds;
+use types::row_at;
 
 // Line a of t types of which some stay.
 fn line_left(area: &mut [u16], kept: &[usize], count: usize, t: usize, a: usize)
@@ -62,8 +63,7 @@ fn to_the_end(states: &mut [u8], made: usize, i: usize)
     ensures { λ _. ⌜ now (states .exit) ≡ placed (now (states .entry)) (64 * i) (rowsFrom (now (states .entry)) (i + 1) made ++ storedAt (now (states .entry)) i) ⌝ }
 {
     let end = 64 * made - 64;
-    let mut row = [0u8; 64];
-    copy(&states[64 * i..64 * i + 64], &mut row, 0);
+    let row = row_at(states, i);
     let mut c = 64 * i;
     while c < end {
         states[c] = states[c + 64];

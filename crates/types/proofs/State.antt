@@ -7,7 +7,7 @@ use Prim.Native.Nat.{ℕ, zero, suc, _+_, _*_, _-_, _≤_, _<_}
 use native.Mathlib.Decide.{ℕ-discrete}
 use native.Mathlib.Omega.{arith}
 use lib.Dec.{eqb}
-use lib.ListN.{length, getD, drop, set, replicate, length-append, length-drop, length-set, length-map, length-replicate, getD-replicate, List·getD-append, List·getD-map}
+use lib.ListN.{length, getD, take, drop, set, replicate, length-append, length-drop, length-set, length-map, length-replicate, getD-replicate, List·getD-append, List·getD-map}
 use lib.Seq.{length-take-le, getD-take, getD-drop, getD-append-seam, getD-append-add, getD-set-same, getD-set-other, map-set-same, ext-getD}
 use Rattle.graph.specs.Below.{gather, given, only, first}
 use Rattle.graph.proofs.Below.{gather-add, gather-ext, table-ext, length-table, getD-table, table-getD, first-is, first-le, first-before, first-hits}
@@ -17,7 +17,7 @@ use Rattle.rules.specs.declared.Kind.{Kind}
 use Rattle.rules.proofs.Rows.{same-row}
 use Rattle.rules.proofs.Block.{Stands, stands-in, stands-part, stands-getD, length-parts, stands-gather}
 use Rattle.memory.specs.Placed.{placed}
-use Rattle.memory.proofs.Placed.{placed-none, stands-placed, placed-twice}
+use Rattle.memory.proofs.Placed.{placed-none, stands-placed, placed-twice, placed-whole}
 use Rattle.types.specs.State.{stored, storedAt, laid, blank, kindOf, kindsOf, rowIn, nodesIn}
 
 -- The 64 bytes of type i.
@@ -34,6 +34,12 @@ module _ (area : Bytes) (i : ℕ) where
   storedAt-is bs l h e =
       let n = length-storedAt h in
       ext-getD 0 _ bs (n ∙ sym l) (λ c g. let k : c < 64 = omega arith in storedAt-state c k ∙ e c k)
+
+  -- They are what is copied from them over 64 zeros.
+  pub row-read : 64 * i + 64 ≤ length area → placed (replicate 64 0) 0 (take (64 * i + 64 - 64 * i) (drop (64 * i) area)) ≡ storedAt area i
+  row-read h =
+      let n : 64 * i + 64 - 64 * i ≡ 64 = omega arith in
+      rw n (placed-whole (replicate 64 0) (storedAt area i) (length-storedAt h))
 
 -- A stored row is 64 bytes, with the row's states in front. Rows of one width are equal as stored just where they are equal.
 pub length-stored : (r : Row) → length r ≤ 64 → length (stored r) ≡ 64

@@ -22,6 +22,17 @@ pub struct Sample {
     pub kinds: [Kind; 128],
 }
 
+// The row of type i, as it is stored.
+pub fn row_at(states: &[u8], i: usize) -> [u8; 64]
+    requires { ⌜ 64 * i + 64 ≤ length (now states) ⌝ }
+    ensures { λ r. ⌜ r ≡ storedAt (now (states .entry)) i ⌝ }
+{
+    let from = 64 * i;
+    let mut row = [0u8; 64];
+    copy(&states[from..from + 64], &mut row, 0);
+    row
+}
+
 // Whether type i of the state area has this row.
 pub fn same_row(states: &[u8], i: usize, row: &[u8; 64]) -> bool
     requires { ⌜ 64 * i + 64 ≤ length (now states) ⌝ }

@@ -25,26 +25,8 @@ abbrev μ-loop : tie.MeasureT-loop
 loop-holds : tie.Need-loop-holds Inv-loop μ-loop
 loop-holds c = record { size = length-replicate {A = ℕ} 8192 0; read = omega arith; is = sorted-none _ }
 
-mul-from : tie.Need-mul-from Inv-loop μ-loop
-mul-from c = omega arith
-
-add-copy : tie.Need-add-copy Inv-loop μ-loop
-add-copy c = omega arith
-
-sub-copy : tie.Need-sub-copy Inv-loop μ-loop
-sub-copy c = omega arith
-
-part-copy-start : tie.Need-part-copy-start Inv-loop μ-loop
-part-copy-start c = omega arith
-
-part-copy-end : tie.Need-part-copy-end Inv-loop μ-loop
-part-copy-end c = omega arith
-
-slice-aggregate-copy : tie.Need-slice-aggregate-copy Inv-loop μ-loop
-slice-aggregate-copy c = omega arith
-
-copy-requires : tie.Need-copy-requires Inv-loop μ-loop
-copy-requires c κs = omega arith
+row-at-requires : tie.Need-row-at-requires Inv-loop μ-loop
+row-at-requires c κs = omega arith
 
 slice-aggregate-insert : tie.Need-slice-aggregate-insert Inv-loop μ-loop
 slice-aggregate-insert c = omega arith
@@ -60,13 +42,13 @@ loop-less c = omega arith
 
 loop-again : tie.Need-loop-again Inv-loop μ-loop
 loop-again c =
-    let l = c .before .before .before .before .before .before .before .before .before in
+    let l = c .before .before .before .before .before .before in
     let a = l .before .before .args in
     record {
       size = omega arith;
       read = omega arith;
       is = c .before .insert .ensures
-          ∙ sorted-more (a .found .now) (l .loop .k) (omega arith) (l .loop .rows) _ (omega arith) (l .loop .inv .is) (c .before .before .before .before .before .copy .ensures);
+          ∙ sorted-more (a .found .now) (l .loop .k) (omega arith) (l .loop .rows) _ (omega arith) (l .loop .inv .is) (c .before .before .before .before .row-at .ensures);
     }
 
 returns : tie.Need-returns Inv-loop μ-loop
@@ -81,13 +63,7 @@ ascending-spec =
     Inv-loop
     μ-loop
     loop-holds
-    mul-from
-    add-copy
-    sub-copy
-    part-copy-start
-    part-copy-end
-    slice-aggregate-copy
-    copy-requires
+    row-at-requires
     slice-aggregate-insert
     insert-requires
     add-k

@@ -1,11 +1,11 @@
 -- `known::guess_all` meets its contract: after i rows, the guesses are those of the first i.
-use mathlib.Core.Path.{_≡_, _∙_}
+use mathlib.Core.Path.{_≡_}
 use Prim.Native.Nat.{_-_, _≤_}
 use native.Mathlib.Omega.{arith}
 use borrow.Author.Needs.{needs}
 use Rattle.known.specs.Known.{guessesOf}
 use Rattle.known.proofs.Place.{slot-few}
-use Rattle.known.proofs.Guesses.{copied-row, guesses-none, guesses-more}
+use Rattle.known.proofs.Guesses.{guesses-none, guesses-more}
 use Rattle.known.proofs.guess_all.Statement.{statement}
 use Rattle.known.proofs.guess_all.Tie as tie
 
@@ -18,26 +18,8 @@ abbrev μ-loop : tie.MeasureT-loop
 loop-holds : tie.Need-loop-holds Inv-loop μ-loop
 loop-holds c = (omega arith, guesses-none _)
 
-mul-from : tie.Need-mul-from Inv-loop μ-loop
-mul-from c = search needs
-
-add-copy : tie.Need-add-copy Inv-loop μ-loop
-add-copy c = search needs
-
-sub-copy : tie.Need-sub-copy Inv-loop μ-loop
-sub-copy c = search needs
-
-part-copy-start : tie.Need-part-copy-start Inv-loop μ-loop
-part-copy-start c = search needs
-
-part-copy-end : tie.Need-part-copy-end Inv-loop μ-loop
-part-copy-end c = search needs
-
-slice-aggregate-copy : tie.Need-slice-aggregate-copy Inv-loop μ-loop
-slice-aggregate-copy c = search needs
-
-copy-requires : tie.Need-copy-requires Inv-loop μ-loop
-copy-requires c κs = search needs
+row-at-requires : tie.Need-row-at-requires Inv-loop μ-loop
+row-at-requires c κs = search needs
 
 cast-guesses : tie.Need-cast-guesses Inv-loop μ-loop
 cast-guesses c = search needs
@@ -56,12 +38,9 @@ loop-less c = omega arith
 
 loop-again : tie.Need-loop-again Inv-loop μ-loop
 loop-again c =
-    let l = c .before .before .before .before .before .before .before in
-    let states = l .before .before .args .states .now in
-    let at = c .before .before .before .copy .ensures in
-    let i = l .loop .i in
-    let row = at ∙ copied-row states i (omega arith) in
-    (omega arith, rw (c .slot .ensures, row, l .loop .inv .1) (guesses-more states i))
+    let l = c .before .before .before .before in
+    let row = c .before .before .row-at .ensures in
+    (omega arith, rw (c .slot .ensures, row, l .loop .inv .1) (guesses-more _ (l .loop .i)))
 
 returns : tie.Need-returns Inv-loop μ-loop
 returns c =
@@ -76,13 +55,7 @@ guess-all-spec =
     Inv-loop
     μ-loop
     loop-holds
-    mul-from
-    add-copy
-    sub-copy
-    part-copy-start
-    part-copy-end
-    slice-aggregate-copy
-    copy-requires
+    row-at-requires
     cast-guesses
     slot-requires
     array-write-guesses

@@ -1,17 +1,14 @@
 -- `retire::to_the_end` meets its contract: so many bytes have moved down, and the row goes behind them.
-use mathlib.Core.Path.{_≡_, refl, sym, ap, _∙_}
+use mathlib.Core.Path.{_≡_, refl, ap, _∙_}
 use mathlib.Core.List.{_++_}
 use Prim.Native.Nat.{_+_, _*_, _-_, _≤_}
 use native.Mathlib.Omega.{arith}
-use borrow.Author.Needs.{needs}
-use lib.ListN.{length, drop, length-set, length-take}
+use lib.ListN.{length, length-set}
 use Rattle.rules.specs.Job.{Bytes}
-use Rattle.types.specs.State.{storedAt}
-use Rattle.types.proofs.State.{length-storedAt}
 use Rattle.memory.specs.Placed.{placed}
 use Rattle.memory.proofs.Placed.{length-placed}
 use Rattle.retire.specs.Left.{rowsFrom}
-use Rattle.retire.proofs.Moved.{moved, moved-none, moved-more, row-read, row-behind}
+use Rattle.retire.proofs.Moved.{moved, moved-none, moved-more, row-behind}
 use Rattle.retire.proofs.to_the_end.Statement.{statement}
 use Rattle.retire.proofs.to_the_end.Tie as tie
 
@@ -27,40 +24,8 @@ mul-end c = omega arith
 sub-end : tie.Need-sub-end Inv-loop μ-loop
 sub-end c = omega arith
 
-mul-copy : tie.Need-mul-copy Inv-loop μ-loop
-mul-copy c = omega arith
-
-mul-copy-2 : tie.Need-mul-copy-2 Inv-loop μ-loop
-mul-copy-2 c = omega arith
-
-add-copy : tie.Need-add-copy Inv-loop μ-loop
-add-copy c = omega arith
-
-sub-copy : tie.Need-sub-copy Inv-loop μ-loop
-sub-copy c = omega arith
-
-part-copy-start : tie.Need-part-copy-start Inv-loop μ-loop
-part-copy-start c = omega arith
-
-part-copy-end : tie.Need-part-copy-end Inv-loop μ-loop
-part-copy-end c = omega arith
-
-slice-aggregate-copy : tie.Need-slice-aggregate-copy Inv-loop μ-loop
-slice-aggregate-copy c = search needs
-
-copy-requires : tie.Need-copy-requires Inv-loop μ-loop
-copy-requires c κs =
-    let a = c .before .before .before .before .args in
-    omega (arith, length-take (64 * a .i + 64 - 64 * a .i) (drop (64 * a .i) (a .states .now)))
-
--- The row as it was read, and its size.
-row-is : (c : tie.After-copy Inv-loop μ-loop) →
-    let a = c .before .before .before .before .before .args in
-    (c .copy .last .1 .0 ≡ storedAt (a .states .now) (a .i)) × (length (c .copy .last .1 .0) ≡ 64)
-row-is c =
-    let a = c .before .before .before .before .before .args in
-    let e = row-read (a .states .now) (a .i) _ (64 * a .i + 64 - 64 * a .i) (omega arith) (omega arith) (c .copy .ensures) in
-    (e, ap length e ∙ length-storedAt (a .states .now) (a .i) (omega arith))
+row-at-requires : tie.Need-row-at-requires Inv-loop μ-loop
+row-at-requires c κs = omega arith
 
 mul-c : tie.Need-mul-c Inv-loop μ-loop
 mul-c c = omega arith
@@ -88,27 +53,26 @@ loop-again c =
     let l = c .before .before .loop in
     (omega arith, omega arith, simp length-set (l .inv .2), moved-more _ _ (l .c) (l .states) (omega arith) (omega arith) (l .inv .3))
 
-slice-aggregate-copy-2 : tie.Need-slice-aggregate-copy-2 Inv-loop μ-loop
-slice-aggregate-copy-2 c = sym (row-is (c .before .before .before .before) .1)
+slice-aggregate-copy : tie.Need-slice-aggregate-copy Inv-loop μ-loop
+slice-aggregate-copy c = omega arith
 
-copy-requires-2 : tie.Need-copy-requires-2 Inv-loop μ-loop
-copy-requires-2 c κs = omega (arith, row-is (c .before .before .before .before .before) .1)
+copy-requires : tie.Need-copy-requires Inv-loop μ-loop
+copy-requires c κs = omega arith
 
 same-length : tie.Need-same-length Inv-loop μ-loop
 same-length c =
     let l = c .before .before .before .before .before .before .loop in
-    let n = row-is (c .before .before .before .before .before .before .before .before) .1 in
-    ap length (c .before .before .copy2 .ensures) ∙ length-placed (l .states) _ _ (omega (arith, n)) ∙ l .inv .2
+    ap length (c .before .before .copy .ensures) ∙ length-placed (l .states) _ _ (omega arith) ∙ l .inv .2
 
 returns : tie.Need-returns Inv-loop μ-loop
 returns c =
     let l = c .before .before .before .before .before .before .loop in
-    let s = c .before .before .before .before .before .before .before .before in
-    let a = s .before .before .before .before .before .args in
+    let s = c .before .before .before .before .before .before .before in
+    let a = s .before .before .before .args in
     let e : l .c ≡ 64 * a .made - 64 = omega arith in
-    c .before .before .copy2 .ensures
+    c .before .before .copy .ensures
     ∙ row-behind (a .states .now) (a .i) (l .states) _ (a .made) (omega arith) (omega arith) (l .inv .3 ∙ ap (moved (a .states .now) (a .i)) e)
-    ∙ ap (λ (r : Bytes). placed (a .states .now) (64 * a .i) (rowsFrom (a .states .now) (a .i + 1) (a .made) ++ r)) (row-is s .0)
+    ∙ ap (λ (r : Bytes). placed (a .states .now) (64 * a .i) (rowsFrom (a .states .now) (a .i + 1) (a .made) ++ r)) (s .row-at .ensures)
 
 pub to-the-end-spec : {M : Type 1} → statement M
 to-the-end-spec =
@@ -118,14 +82,7 @@ to-the-end-spec =
     μ-loop
     mul-end
     sub-end
-    mul-copy
-    mul-copy-2
-    add-copy
-    sub-copy
-    part-copy-start
-    part-copy-end
-    slice-aggregate-copy
-    copy-requires
+    row-at-requires
     mul-c
     loop-holds
     add-states
@@ -134,7 +91,7 @@ to-the-end-spec =
     add-c
     loop-less
     loop-again
-    slice-aggregate-copy-2
-    copy-requires-2
+    slice-aggregate-copy
+    copy-requires
     same-length
     returns)
