@@ -2,7 +2,7 @@
 -- gathers the candidates of a cost of at most lambda and epsilon, or finds more of them than there is room for.
 use mathlib.Core.Path.{_≡_, refl, sym, _∙_}
 use mathlib.Core.Logic.{_≢_, ⊎-elim}
-use mathlib.Core.Bool.{Bool, true, false, cond, false≢true}
+use mathlib.Core.Bool.{true, false, cond, false≢true}
 use mathlib.Core.List.{List, []}
 use Prim.Native.Nat.{ℕ, _+_, _*_, _≤_, _<_}
 use native.Mathlib.Decide.{decLt}
@@ -17,10 +17,11 @@ use Rattle.types.specs.State.{storedAt, laid}
 use Rattle.distances.specs.Area.{Weighed}
 use Rattle.ascending.specs.Sorted.{sorted}
 use Rattle.ascending.proofs.Sorted.{in-sorted, length-sorted, sorted-ascends}
+use Rattle.search.specs.Search.{forLambda, forAll}
 use Rattle.search.specs.declared.Search.{Search}
 use Rattle.search.specs.Swept.{Gathered, Swept}
 use Rattle.candidates.specs.declared.Added.{Added}
-use Rattle.candidates.specs.Candidate.{Candidate, Faithful, Everywhere, InWindow, All, TooMany, Fresh}
+use Rattle.candidates.specs.Candidate.{Candidate, Faithful, Everywhere, InWindow, All, TooMany, Fresh, IsNone, IsSorted}
 use Rattle.candidates.proofs.Dropped.{gives-small}
 use Rattle.candidates.proofs.Seated.{candidate-met}
 
@@ -60,21 +61,10 @@ module _ (found : Bytes) (count : ℕ) (row : Bytes) where
   unfolding withLast
   with-last-row k h = rw (le-ltb k count h)
 
--- The two searches as they start: for lambda, above every cost, and for all candidates below a cost.
-abbrev pub looking : ℕ → Search
-looking made = record { below = 128001; made = made; count = 0; gathering = false; full = false }
-
-abbrev pub gathering : ℕ → ℕ → Search
-gathering made below = record { below = below; made = made; count = 0; gathering = true; full = false }
-
--- What `none` hands back.
-abbrev pub IsNone : Bool → Added → Type 0
-IsNone full r = (r .rows ≡ replicate 8192 0) × (r .count ≡ 0) × (r .full ≡ full)
-
 module _ {ws : List ℕ} {states : Bytes} {area : List ℕ} {n made : ℕ} where
   -- The first sweep, in which no row is found.
   module _ {found₀ found₁ : Bytes} {least : Search}
-      (first : Swept (Everywhere ws states area n made n) (Candidate ws states area n made) found₀ (looking made) found₁ least)
+      (first : Swept (Everywhere ws states area n made n) (Candidate ws states area n made) found₀ (forLambda made) found₁ least)
       (none : least .count ≡ 0) where
     lowest : Faithful ws states area n → (x : Bytes) (cost : ℕ) → Candidate ws states area n made x cost → least .below ≤ cost
     lowest faithful x cost k =
@@ -98,8 +88,8 @@ module _ {ws : List ℕ} {states : Bytes} {area : List ℕ} {n made : ℕ} where
 
     -- The second sweep.
     module _ (e : ℕ) (lower : least .below ≢ 128001) {found₂ : Bytes} {all : Search}
-        (second : Swept (Everywhere ws states area n made n) (Candidate ws states area n made) found₁ (gathering made (least .below + e + 1)) found₂ all) where
-      gathered : Gathered (Candidate ws states area n made) found₁ (gathering made (least .below + e + 1)) found₂ all
+        (second : Swept (Everywhere ws states area n made n) (Candidate ws states area n made) found₁ (forAll made (least .below + e + 1)) found₂ all) where
+      gathered : Gathered (Candidate ws states area n made) found₁ (forAll made (least .below + e + 1)) found₂ all
       gathered = second .gathers refl
 
       found-differ : (i k : ℕ) → i < k → k < all .count → storedAt found₂ i ≢ storedAt found₂ k
@@ -165,9 +155,8 @@ module _ {ws : List ℕ} {states : Bytes} {area : List ℕ} {n made : ℕ} where
       }
 
       -- There is room for all.
-      pub fresh-all : all .full ≡ false → {r : Added} → length (r .rows) ≡ 8192 → r .rows ≡ padded 8192 (laid (sorted (all .count) (storedAt found₂))) →
-          r .count ≡ all .count → r .full ≡ false → Fresh ws states area n made e r
-      fresh-all open-is {r} size rows-are count-is full-is = record {
+      pub fresh-all : all .full ≡ false → {r : Added} → IsSorted found₂ (all .count) r → Fresh ws states area n made e r
+      fresh-all open-is {r} (size, rows-are, count-is, full-is) = record {
         size = size;
         room = omega (arith, second .room, second .made-stays);
         all = λ faithful _. all-gathered faithful r open-is count-is rows-are;

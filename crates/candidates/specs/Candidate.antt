@@ -1,7 +1,7 @@
 -- Candidates as memory tells them, and the rows that a round adds.
 use mathlib.Core.Path.{_≡_}
 use mathlib.Core.Logic.{_↔_, _≢_, _⊎_}
-use mathlib.Core.Bool.{true, false}
+use mathlib.Core.Bool.{Bool, true, false}
 use mathlib.Core.List.{List}
 use Prim.Native.Nat.{ℕ, _+_, _*_, _≤_, _<_}
 use lib.ListN.{length, getD, replicate}
@@ -16,6 +16,7 @@ use Rattle.links.specs.Marks.{marked}
 use Rattle.triplets.specs.Followers.{Followers}
 use Rattle.triplets.specs.Triplet.{inOrder}
 use Rattle.triplets.specs.declared.Triplet.{Triplet}
+use Rattle.ascending.specs.Sorted.{sorted}
 use Rattle.search.specs.Swept.{Gives}
 use Rattle.search.specs.declared.Search.{Search}
 use Rattle.candidates.specs.declared.Added.{Added}
@@ -71,6 +72,13 @@ pub record Ready (states : Bytes) (area ws next : List ℕ) (found : Bytes) (gue
   pub found-size : length found ≡ 8192
   pub guesses-size : length guesses ≡ 4096
   pub low : s .below ≤ 200000
+
+-- No row, because there is no candidate or no room; and the first rows of some memory, ascending.
+abbrev pub IsNone : Bool → Added → Type 0
+IsNone full r = (r .rows ≡ replicate 8192 0) × (r .count ≡ 0) × (r .full ≡ full)
+
+abbrev pub IsSorted : Bytes → ℕ → Added → Type 0
+IsSorted found count r = (length (r .rows) ≡ 8192) × (r .rows ≡ padded 8192 (laid (sorted count (storedAt found)))) × (r .count ≡ count) × (r .full ≡ false)
 
 -- A candidate that the round adds: one of its costs is at most the cost of any candidate and epsilon.
 pub record InWindow (ws : List ℕ) (states : Bytes) (area : List ℕ) (n made e : ℕ) (x : Bytes) : Type 0 where

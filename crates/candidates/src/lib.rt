@@ -4,12 +4,12 @@
 ghost use mathlib.Core.Path.{_≡_};
 ghost use mathlib.Core.Bool.{true};
 ghost use Prim.Native.Nat.{_+_, _*_, _≤_, _<_};
-ghost use lib.ListN.{length, replicate};
+ghost use lib.ListN.{length};
 ghost use Rattle.distances.specs.Area.{Weighed};
 ghost use Rattle.links.specs.Marks.{marked};
 ghost use Rattle.triplets.specs.Followers.{Followers};
 ghost use Rattle.search.specs.Swept.{Swept};
-ghost use Rattle.candidates.specs.Candidate.{Candidate, WithFirst, AtCentre, Everywhere, Ready, Fresh};
+ghost use Rattle.candidates.specs.Candidate.{Candidate, WithFirst, AtCentre, Everywhere, Ready, IsNone, IsSorted, Fresh};
 use ascending::ascending;
 use known::guess_all;
 use search::Search;
@@ -111,13 +111,26 @@ fn sweep(
 
 // No row is added: there is no candidate, or no room.
 fn none(full: bool) -> Added
-    ensures { λ r. ⌜ (r .rows ≡ replicate 8192 0) × (r .count ≡ 0) × (r .full ≡ full) ⌝ }
+    ensures { λ r. ⌜ IsNone full r ⌝ }
 {
     let rows = [0u8; 8192];
     Added {
         rows,
         count: 0,
         full,
+    }
+}
+
+// The rows found are added, ascending.
+fn added_rows(found: &[u8], count: usize) -> Added
+    requires { ⌜ (count ≤ 128) × (length (now found) ≡ 8192) ⌝ }
+    ensures { λ r. ⌜ IsSorted (now (found .entry)) count r ⌝ }
+{
+    let rows = ascending(found, count);
+    Added {
+        rows,
+        count,
+        full: false,
     }
 }
 
@@ -136,15 +149,7 @@ pub fn fresh(
     let next = followers(area, n);
     let mut guesses = guess_all(states, made);
     let mut found = [0u8; 8192];
-    // above every cost
-    let none_yet = 128001;
-    let first = Search {
-        below: none_yet,
-        made,
-        count: 0,
-        gathering: false,
-        full: false,
-    };
+    let any = Search::for_lambda(made);
     let least = sweep(
         states,
         area,
@@ -153,18 +158,12 @@ pub fn fresh(
         &mut found,
         &mut guesses,
         n,
-        first,
+        any,
     );
-    if least.below == none_yet {
+    if least.below == any.below {
         return none(false);
     }
-    let second = Search {
-        below: least.below + epsilon + 1,
-        made,
-        count: 0,
-        gathering: true,
-        full: false,
-    };
+    let window = Search::for_all(made, least.below + epsilon + 1);
     let all = sweep(
         states,
         area,
@@ -173,16 +172,10 @@ pub fn fresh(
         &mut found,
         &mut guesses,
         n,
-        second,
+        window,
     );
     if all.full {
         return none(true);
     }
-    let count = all.count;
-    let rows = ascending(&found, count);
-    Added {
-        rows,
-        count,
-        full: false,
-    }
+    added_rows(&found, all.count)
 }

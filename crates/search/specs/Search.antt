@@ -1,5 +1,5 @@
 -- The state of a search, and what one candidate makes of it.
-use mathlib.Core.Bool.{true, cond}
+use mathlib.Core.Bool.{true, false, cond}
 use Prim.Native.Nat.{ℕ, _+_, _*_, _≤_, _<_}
 use lib.Dec.{eqb}
 use lib.ListN.{length}
@@ -8,6 +8,14 @@ use Rattle.memory.specs.Placed.{placed}
 use Rattle.triplets.specs.declared.Triplet.{Triplet}
 use Rattle.search.specs.declared.Search.{Search}
 
+-- A search begins: for lambda, of any cost, or for all candidates below a cost.
+abbrev pub forLambda : ℕ → Search
+forLambda made = record { below = 128001; made = made; count = 0; gathering = false; full = false }
+
+abbrev pub forAll : ℕ → ℕ → Search
+forAll made below = record { below = below; made = made; count = 0; gathering = true; full = false }
+
+-- It goes on: a lower cost is known of, no room is left, one more was found.
 abbrev pub lowered : Search → ℕ → Search
 lowered s cost = record { below = cost; made = s .made; count = s .count; gathering = s .gathering; full = s .full }
 

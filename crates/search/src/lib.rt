@@ -5,7 +5,7 @@ ghost use mathlib.Core.Path.{_≡_};
 ghost use Prim.Native.Nat.{_+_, _*_, _≤_, _<_};
 ghost use lib.ListN.{length};
 ghost use Rattle.distances.specs.Area.{Weighed};
-ghost use Rattle.search.specs.Search.{lowered, filled, withOne, taken, foundAfter, Inside};
+ghost use Rattle.search.specs.Search.{forLambda, forAll, lowered, filled, withOne, taken, foundAfter, Inside};
 ghost use Rattle.search.specs.Swept.{Gives, IsMedian, GivesRow, Swept};
 use known::alike;
 use known::guessed;
@@ -26,6 +26,32 @@ pub struct Search {
 }
 
 impl Search {
+    // For lambda, of any cost: none is above 128,000.
+    pub fn for_lambda(made: usize) -> Self
+        ensures { λ r. ⌜ r ≡ forLambda made ⌝ }
+    {
+        Search {
+            below: 128001,
+            made,
+            count: 0,
+            gathering: false,
+            full: false,
+        }
+    }
+
+    // For all candidates of a cost below this.
+    pub fn for_all(made: usize, below: usize) -> Self
+        ensures { λ r. ⌜ r ≡ forAll made below ⌝ }
+    {
+        Search {
+            below,
+            made,
+            count: 0,
+            gathering: true,
+            full: false,
+        }
+    }
+
     // A candidate of this cost is known of.
     fn lowered(mut self, cost: usize) -> Self
         ensures { λ r. ⌜ r ≡ lowered self cost ⌝ }

@@ -1,31 +1,60 @@
 -- `candidates::fresh` meets its contract: the first sweep finds no candidate or lambda, and the second one all or too many.
-use mathlib.Core.Path.{_≡_, refl, _∙_}
+use mathlib.Core.Path.{_≡_, refl, sym, ap, _∙_}
+use mathlib.Core.Logic.{_≢_}
+use Prim.Native.Nat.{ℕ, _+_}
 use native.Mathlib.Omega.{arith}
 use borrow.Author.Needs.{needs}
-use lib.ListN.{length-replicate}
+use lib.ListN.{replicate, length-replicate}
+use Rattle.rules.specs.Job.{Bytes}
+use Rattle.search.specs.Search.{forLambda, forAll}
+use Rattle.search.specs.Swept.{Swept}
+use Rattle.search.specs.declared.Search.{Search}
+use Rattle.candidates.specs.Candidate.{Candidate, Everywhere}
 use Rattle.candidates.proofs.Chosen.{fresh-none, fresh-full, fresh-all}
 use Rattle.candidates.proofs.fresh.Statement.{statement}
 use Rattle.candidates.proofs.fresh.Tie as tie
 
 -- The function's start, as the first sweep has it, and that sweep, as the second one has it.
 abbrev start : tie.After-sweep → tie.Start
-start c = c .before .before .before .before .before .before .before .before .before
+start c = c .before .before .before .before .before .before .before .before .before .before
 
 abbrev not-none : tie.After-sweep2 → tie.Else1
-not-none c = c .before .before .before .before .before
+not-none c = c .before .before .before .before .before .before
 
 abbrev first : tie.After-sweep2 → tie.After-sweep
-first c = not-none c .before .before .before .before
+first c = not-none c .before .before .before .before .before
 
--- A sweep for lambda finds no row.
-none-found : (c : tie.After-sweep) → c .sweep .result .count ≡ 0
-none-found c = c .sweep .ensures .1 .count-stays refl
+-- What each sweep came to: for lambda, and for all within the window.
+module _ (c : tie.After-sweep) where
+  abbrev told : Bytes → ℕ → Type 0
+  told = let a = start c .args in Candidate (a .weights .now) (a .states .now) (a .area .now) (a .n) (a .made)
+
+  abbrev everywhere : Bytes → ℕ → Type 0
+  everywhere = let a = start c .args in Everywhere (a .weights .now) (a .states .now) (a .area .now) (a .n) (a .made) (a .n)
+
+  swept : Swept everywhere told (replicate 8192 0) (forLambda (start c .args .made)) (c .sweep .last .1 .1 .1 .1 .0) (c .sweep .result)
+  swept = rw (c .before .before .before .before .for-lambda .ensures) at (c .sweep .ensures .1)
+
+  lambda-from : c .before .before .before .before .for-lambda .result .below ≡ 128001
+  lambda-from = ap (λ (s : Search). s .below) (c .before .before .before .before .for-lambda .ensures)
+
+all-swept : (c : tie.After-sweep2) → let f = first c in
+    Swept (everywhere f) (told f) (f .sweep .last .1 .1 .1 .1 .0) (forAll (start f .args .made) (f .sweep .result .below + start f .args .epsilon + 1))
+    (c .sweep2 .last .1 .1 .1 .1 .0) (c .sweep2 .result)
+all-swept c = rw (c .before .before .before .before .for-all .ensures) at (c .sweep2 .ensures .1)
+
+-- There is a candidate.
+not-lambda : (c : tie.After-sweep2) → first c .sweep .result .below ≢ 128001
+not-lambda c e = not-none c .if1 .left (e ∙ sym (lambda-from (first c)))
 
 followers-requires : tie.Need-followers-requires
 followers-requires c κs = search needs
 
 guess-all-requires : tie.Need-guess-all-requires
 guess-all-requires c κs = search needs
+
+for-lambda-requires : tie.Need-for-lambda-requires
+for-lambda-requires c κs = search needs
 
 slice-aggregate-sweep : tie.Need-slice-aggregate-sweep
 slice-aggregate-sweep c = search needs
@@ -37,25 +66,40 @@ slice-aggregate-sweep-3 : tie.Need-slice-aggregate-sweep-3
 slice-aggregate-sweep-3 c = search needs
 
 sweep-requires : tie.Need-sweep-requires
-sweep-requires c κs = search needs
+sweep-requires c κs =
+    let p = c .before .before .before .before .before .before .before .before .before .pre in
+    rw (c .before .before .before .for-lambda .ensures) (record {
+      weighed = p .0;
+      follows = c .before .before .before .before .before .followers .ensures;
+      current = p .1;
+      room = omega (arith, p .2);
+      lie = p .4;
+      cells = p .5;
+      found-size = simp length-replicate;
+      guesses-size = search needs;
+      low = omega arith;
+    })
 
 none-requires : tie.Need-none-requires
 none-requires c κs = search needs
 
 returns : tie.Need-returns
 returns c =
-    let s = c .before .before .before .before .before in
+    let s = c .before .before .before .before .before .before in
     let p = start s .pre in
-    fresh-none (s .sweep .ensures .1) (none-found s) (start s .args .epsilon) (p .0) (p .1) (p .2) (p .4) (c .before .if1 .taken) (c .none .ensures)
+    fresh-none (swept s) (swept s .count-stays refl) (start s .args .epsilon) (p .0) (p .1) (p .2) (p .4) (c .before .if1 .taken ∙ lambda-from s) (c .none .ensures)
 
-add-t26 : tie.Need-add-t26
-add-t26 c = search needs
+add-for-all : tie.Need-add-for-all
+add-for-all c = omega (arith, swept (c .before .before .before .before .before .before) .no-higher, start (c .before .before .before .before .before .before) .pre .3)
 
-add-t27 : tie.Need-add-t27
-add-t27 c = search needs
+add-for-all-2 : tie.Need-add-for-all-2
+add-for-all-2 c = omega (arith, swept (c .before .before .before .before .before .before) .no-higher, start (c .before .before .before .before .before .before) .pre .3)
+
+for-all-requires : tie.Need-for-all-requires
+for-all-requires c κs = search needs
 
 slice-aggregate-sweep-4 : tie.Need-slice-aggregate-sweep-4
-slice-aggregate-sweep-4 c = search needs
+slice-aggregate-sweep-4 c = sym (c .before .before .before .before .before .before .before .before .before .before .before .before .before .before .followers .ensures .size)
 
 slice-aggregate-sweep-5 : tie.Need-slice-aggregate-sweep-5
 slice-aggregate-sweep-5 c = search needs
@@ -65,20 +109,19 @@ slice-aggregate-sweep-6 c = search needs
 
 sweep-requires-2 : tie.Need-sweep-requires-2
 sweep-requires-2 c κs =
-    let s = c .before .before .before .before .before .before .before .before in
+    let s = c .before .before .before .before .before .before .before .before .before .before in
     let p = start s .pre in
-    let swept = s .sweep .ensures in
-    record {
+    rw (c .before .before .before .for-all .ensures) (record {
       weighed = p .0;
-      follows = s .before .before .before .before .before .followers .ensures;
+      follows = s .before .before .before .before .before .before .followers .ensures;
       current = p .1;
       room = omega (arith, p .2);
       lie = p .4;
       cells = p .5;
-      found-size = swept .1 .size ∙ simp length-replicate;
-      guesses-size = swept .0;
-      low = omega (arith, swept .1 .no-higher, p .3);
-    }
+      found-size = swept s .size ∙ simp length-replicate;
+      guesses-size = s .sweep .ensures .0;
+      low = omega (arith, swept s .no-higher, p .3);
+    })
 
 none-requires-2 : tie.Need-none-requires-2
 none-requires-2 c κs = search needs
@@ -87,20 +130,19 @@ returns-2 : tie.Need-returns-2
 returns-2 c =
     let s = c .before .before .before .before in
     let f = first s in
-    fresh-full (f .sweep .ensures .1) (none-found f) (start f .args .epsilon) (not-none s .if1 .left) (s .sweep2 .ensures .1) (start f .pre .2) (c .before .if2 .taken) (c .none2 .ensures)
+    fresh-full (swept f) (swept f .count-stays refl) (start f .args .epsilon) (not-lambda s) (all-swept s) (start f .pre .2) (c .before .if2 .taken) (c .none2 .ensures)
 
-slice-aggregate-ascending : tie.Need-slice-aggregate-ascending
-slice-aggregate-ascending c = search needs
+slice-aggregate-added-rows : tie.Need-slice-aggregate-added-rows
+slice-aggregate-added-rows c = search needs
 
-ascending-requires : tie.Need-ascending-requires
-ascending-requires c κs = search needs
+added-rows-requires : tie.Need-added-rows-requires
+added-rows-requires c κs = search needs
 
 returns-3 : tie.Need-returns-3
 returns-3 c =
     let s = c .before .before .before .before .before in
     let f = first s in
-    fresh-all (f .sweep .ensures .1) (none-found f) (start f .args .epsilon) (not-none s .if1 .left) (s .sweep2 .ensures .1) (c .before .before .if2 .left)
-    (search needs) (c .ascending .ensures) refl refl
+    fresh-all (swept f) (swept f .count-stays refl) (start f .args .epsilon) (not-lambda s) (all-swept s) (c .before .before .if2 .left) (c .added-rows .ensures)
 
 pub fresh-spec : {M : Type 1} → statement M
 fresh-spec =
@@ -108,20 +150,22 @@ fresh-spec =
     (tie.spec
     followers-requires
     guess-all-requires
+    for-lambda-requires
     slice-aggregate-sweep
     slice-aggregate-sweep-2
     slice-aggregate-sweep-3
     sweep-requires
     none-requires
     returns
-    add-t26
-    add-t27
+    add-for-all
+    add-for-all-2
+    for-all-requires
     slice-aggregate-sweep-4
     slice-aggregate-sweep-5
     slice-aggregate-sweep-6
     sweep-requires-2
     none-requires-2
     returns-2
-    slice-aggregate-ascending
-    ascending-requires
+    slice-aggregate-added-rows
+    added-rows-requires
     returns-3)
