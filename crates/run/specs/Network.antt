@@ -1,0 +1,36 @@
+-- The network as memory holds it, and a refused run.
+use mathlib.Core.Bool.{_&&_}
+use mathlib.Core.List.{List}
+use Prim.Native.Nat.{ℕ}
+use lib.Dec.{ltb}
+use lib.ListN.{replicate}
+use Rattle.graph.specs.Below.{gather, only}
+use Rattle.rules.specs.Job.{Bytes}
+use Rattle.rules.specs.Run.{Network}
+use Rattle.rules.specs.declared.Answer.{Answer}
+use Rattle.rules.specs.declared.Link.{Link}
+use Rattle.types.specs.State.{blank, nodesIn}
+use Rattle.distances.specs.Area.{cellAt}
+use Rattle.links.specs.Marks.{marked}
+use Rattle.purge.specs.declared.Held.{Held}
+use Rattle.purge.specs.declared.Phase.the-variants.{Two}
+use Rattle.run.specs.declared.Ended.{Ended}
+
+-- The links of n types: those marked, with the distances in the area.
+unfoldable pub linksIn : ℕ → List ℕ → List Link
+linksIn n area = gather n (λ i. gather n (λ j. only (ltb i j && marked area i j) (record { low = i; high = j; length = cellAt area i j })))
+
+-- The network read back from memory, at a width.
+unfoldable pub networkIn : ℕ → Bytes → List ℕ → Held → Network
+networkIn m states area held = record {
+  types = nodesIn m (held .state .types) states (held .kinds);
+  links = linksIn (held .state .types) area;
+  rounds = held .state .rounds;
+}
+
+-- A refused run leaves nothing.
+abbrev pub refusedWith : Answer → Ended
+refusedWith a = record {
+  answer = a;
+  held = record { state = record { types = 0; made = 0; rounds = 0; phase = Two }; kinds = replicate 128 blank };
+}

@@ -1,0 +1,127 @@
+// The room of the run: Phase I at epsilon until there is no candidate, then Phase II at epsilon 0. What is left in the state area, in
+// the distance area and in the state of the run is the network; after a refusal both areas are zero. The job is only read.
+
+ghost use mathlib.Core.Path.{_≡_};
+ghost use Prim.Native.Nat.{_≤_};
+ghost use lib.ListN.{length};
+ghost use Rattle.rules.specs.Answers.{number};
+ghost use Rattle.rules.specs.Job.{checked};
+ghost use Rattle.run.specs.Phases.{Safe, Turned, PhaseOneOver, PhasesOver};
+ghost use Rattle.run.specs.Network.{refusedWith};
+ghost use Rattle.run.specs.Ran.{Ran};
+use distances::measure;
+use memory::clear_bytes;
+use memory::clear_words;
+use purge::Held;
+use purge::Phase;
+use purge::State;
+use rounds::Turn;
+use rounds::round;
+use rules::Answer;
+use types::no_kinds;
+
+// How a run ends: refused for want of room (or of types), or with the state of its last purge.
+pub struct Ended {
+    pub answer: Answer,
+    pub held: Held,
+}
+
+// Links at epsilon, purge at epsilon, then a round.
+fn turn(states: &mut [u8], area: &mut [u16], weights: &[u16], held: Held) -> Turn
+    requires { ⌜ Safe (now weights) (now states) (now area) held ⌝ }
+    ensures { λ r. ⌜ Turned (now (weights .entry)) (now (states .entry)) (now (area .entry)) held (now (states .exit)) (now (area .exit)) r ⌝ }
+{
+    let purged = purge::purge(states, area, held);
+    round(states, area, weights, purged)
+}
+
+// Phase I: and again, until there is no candidate.
+fn phase_one(states: &mut [u8], area: &mut [u16], weights: &[u16], held: Held) -> Turn
+    requires { ⌜ Safe (now weights) (now states) (now area) held ⌝ }
+    ensures { λ r. ⌜ PhaseOneOver (now (weights .entry)) (now (states .entry)) (now (area .entry)) held (now (states .exit)) (now (area .exit)) r ⌝ }
+{
+    let mut now = turn(states, area, weights, held);
+    while 0 < now.added {
+        let next = now.held;
+        now = turn(states, area, weights, next);
+    }
+    now
+}
+
+// A refused run leaves nothing.
+fn refused(answer: Answer) -> Ended
+    ensures { λ r. ⌜ r ≡ refusedWith answer ⌝ }
+{
+    let kinds = no_kinds();
+    Ended {
+        answer,
+        held: Held {
+            state: State {
+                types: 0,
+                made: 0,
+                rounds: 0,
+                phase: Phase::Two,
+            },
+            kinds,
+        },
+    }
+}
+
+// Phase I, or no room in one of its rounds; and Phase II: links and purge at epsilon 0.
+fn phases(states: &mut [u8], area: &mut [u16], weights: &[u16], held: Held) -> Ended
+    requires { ⌜ Safe (now weights) (now states) (now area) held ⌝ }
+    ensures { λ r. ⌜ PhasesOver (now (weights .entry)) (now (states .entry)) (now (area .entry)) held (now (states .exit)) (now (area .exit)) r ⌝ }
+{
+    let end = phase_one(states, area, weights, held);
+    let last = end.held;
+    let state = last.state;
+    if end.full {
+        clear_bytes(states);
+        clear_words(area);
+        return refused(Answer::Room {
+            place: state.rounds + 1,
+        });
+    }
+    let kinds = last.kinds;
+    let two = Held {
+        state: state.second_phase(),
+        kinds,
+    };
+    let kept = purge::purge(states, area, two);
+    Ended {
+        answer: Answer::Done { used: 0 },
+        held: kept,
+    }
+}
+
+// The run of a job that passed checks 2 to 7.
+pub fn run(job: &[u8], states: &mut [u8], area: &mut [u16]) -> Ended
+    requires { ⌜ (number (checked (now job)) ≡ 0) × (8192 ≤ length (now states)) × (16384 ≤ length (now area)) ⌝ }
+    ensures { λ r. ⌜ Ran (now (job .entry)) (length (now (states .entry))) (length (now (area .entry))) (now (states .exit)) (now (area .exit)) r ⌝ }
+{
+    clear_bytes(states);
+    clear_words(area);
+    let header = job::header_of(job);
+    let sample = types::collapse(job, states, header.rows, header.width);
+    let answer = sample.answer;
+    if let Answer::Types { place: _ } = answer {
+        clear_bytes(states);
+        return refused(answer);
+    }
+    let weights = job::weights(job, header.width);
+    let types = sample.types;
+    measure(states, area, &weights, 0, types);
+    let kinds = sample.kinds;
+    let held = Held {
+        state: State {
+            types,
+            made: types,
+            rounds: 0,
+            phase: Phase::One {
+                epsilon: header.epsilon,
+            },
+        },
+        kinds,
+    };
+    phases(states, area, &weights, held)
+}
