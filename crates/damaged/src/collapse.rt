@@ -63,7 +63,7 @@ fn put_types(job: &[u8], lent: usize)
     requires { ⌜ lent ≤ length (now job) ⌝ }
 {
     let job = &job[..lent];
-    let checked = tell(job::check(job));
+    let checked = tell(checks::check(job));
     if checked.0 != 0 {
         answer(checked);
         return;

@@ -69,5 +69,5 @@ pub(crate) fn check(job: &[u8], lent: usize) -> text::Told
     requires { ⌜ lent ≤ length (now job) ⌝ }
     ensures { λ r. ⌜ (r .0 ≡ number (checked (take lent (now (job .entry))))) × (r .1 ≡ place (checked (take lent (now (job .entry))))) ⌝ }
 {
-    text::tell(job::check(&job[..lent]))
+    text::tell(checks::check(&job[..lent]))
 }

@@ -8,7 +8,7 @@ use crate::show::tell;
 
 // The network of a job, or its refusal.
 fn answer(job: &[u8]) {
-    let checked = tell(job::check(job));
+    let checked = tell(checks::check(job));
     if checked.0 != 0 {
         put_refusal(checked);
         return;

@@ -1,9 +1,9 @@
--- `job::check_layout` meets its contract: it tries what is left behind WIDTH.
+-- `checks::check_layout` meets its contract: it tries what is left behind WIDTH.
 use native.Mathlib.Omega.{arith}
 use borrow.Author.Tests.{ne-eqb}
-use Rattle.job.proofs.Checks.{agree, differ, sized, few-states}
-use Rattle.job.proofs.check_layout.Statement.{statement}
-use Rattle.job.proofs.check_layout.Tie as tie
+use Rattle.checks.proofs.Checks.{agree, differ, sized, few-states}
+use Rattle.checks.proofs.check_layout.Statement.{statement}
+use Rattle.checks.proofs.check_layout.Tie as tie
 
 word-at-requires : tie.Need-word-at-requires
 word-at-requires c κs = omega arith

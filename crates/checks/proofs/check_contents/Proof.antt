@@ -1,9 +1,9 @@
--- `job::check_contents` meets its contract: it tries what is left behind LAYOUT.
+-- `checks::check_contents` meets its contract: it tries what is left behind LAYOUT.
 use native.Mathlib.Omega.{arith}
 use borrow.Author.Tests.{lt-ltb, le-ltb}
-use Rattle.job.proofs.Checks.{laid-out}
-use Rattle.job.proofs.check_contents.Statement.{statement}
-use Rattle.job.proofs.check_contents.Tie as tie
+use Rattle.checks.proofs.Checks.{laid-out}
+use Rattle.checks.proofs.check_contents.Statement.{statement}
+use Rattle.checks.proofs.check_contents.Tie as tie
 
 bad-weight-requires : tie.Need-bad-weight-requires
 bad-weight-requires c κs = omega arith

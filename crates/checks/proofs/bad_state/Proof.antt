@@ -1,4 +1,4 @@
--- `job::bad_state` meets its contract: the place counts the states that were passed, and none of them is outside its bounds.
+-- `checks::bad_state` meets its contract: the place counts the states that were passed, and none of them is outside its bounds.
 use mathlib.Core.Path.{_≡_, sym, _∙_}
 use mathlib.Core.Bool.{false}
 use Prim.Native.Nat.{ℕ, _+_, _*_, _-_, _≤_, _<_}
@@ -9,8 +9,8 @@ use mir.Facts.{fits-8-64}
 use borrow.Author.Count.{below-none, below-more}
 use Rattle.graph.proofs.Below.{first-is}
 use Rattle.rules.specs.Job.{Bytes, outside, badState}
-use Rattle.job.proofs.bad_state.Statement.{statement}
-use Rattle.job.proofs.bad_state.Tie as tie
+use Rattle.checks.proofs.bad_state.Statement.{statement}
+use Rattle.checks.proofs.bad_state.Tie as tie
 
 -- No state before the place is outside its bounds.
 abbrev Clear : Bytes → ℕ → ℕ → Type 0
@@ -68,7 +68,7 @@ loop-less c = omega arith
 loop-again : tie.Need-loop-again Inv-loop μ-loop Inv-rows μ-rows
 loop-again c =
     let l = c .before .before .before .before .loop in
-    (omega arith, omega arith, l .inv .2, below-more _ _ (l .inv .3) (cc))
+    (omega arith, omega arith, l .inv .2, below-more _ _ (l .inv .3) (sym (c .before .outside .ensures) ∙ c .if1 .left))
 
 add-row : tie.Need-add-row Inv-loop μ-loop Inv-rows μ-rows
 add-row c = omega arith
@@ -92,7 +92,7 @@ unfolding badState
 returns-2 c =
     let s = c .before .before .before .before .before .before .before .before in
     let l = c .before .before .before .before .loop in
-    rw (← s .pre .0, ← s .pre .1) (sym (first-is _ _ _ (omega arith) (l .inv .3) (λ h. cc)))
+    rw (← s .pre .0, ← s .pre .1) (sym (first-is _ _ _ (omega arith) (l .inv .3) (λ h. sym (c .before .outside .ensures) ∙ c .if1 .taken)))
 
 pub bad-state-spec : {M : Type 1} → statement M
 bad-state-spec =

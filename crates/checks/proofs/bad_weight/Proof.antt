@@ -1,4 +1,4 @@
--- `job::bad_weight` meets its contract: no weight before the column is outside its bounds.
+-- `checks::bad_weight` meets its contract: no weight before the column is outside its bounds.
 use mathlib.Core.Path.{_≡_, sym}
 use mathlib.Core.Bool.{false}
 use Prim.Native.Nat.{ℕ, _-_, _≤_, _<_}
@@ -6,8 +6,9 @@ use native.Mathlib.Omega.{arith}
 use borrow.Author.Count.{below-none, below-more}
 use Rattle.graph.proofs.Below.{first-is}
 use Rattle.rules.specs.Job.{weightAt, outside, badWeight}
-use Rattle.job.proofs.bad_weight.Statement.{statement}
-use Rattle.job.proofs.bad_weight.Tie as tie
+use Rattle.checks.proofs.Checks.{told}
+use Rattle.checks.proofs.bad_weight.Statement.{statement}
+use Rattle.checks.proofs.bad_weight.Tie as tie
 
 abbrev Inv-loop : tie.InvT-loop
 Inv-loop job m c₀ c = (c ≤ m) × ((k : ℕ) → k < c → outside 1 1000 (weightAt job k) ≡ false)
@@ -32,7 +33,9 @@ outside-requires c κs = tt
 
 returns : tie.Need-returns Inv-loop μ-loop
 unfolding badWeight
-returns c = sym (first-is _ _ _ (omega arith) (c .before .before .before .before .loop .inv .1) (λ h. cc))
+returns c =
+    let hit = told 1 1000 (c .before .outside .ensures) (c .before .before .word-at .ensures .is) (c .if1 .taken) in
+    sym (first-is _ _ _ (omega arith) (c .before .before .before .before .loop .inv .1) (λ h. hit))
 
 add-c : tie.Need-add-c Inv-loop μ-loop
 add-c c = omega arith
@@ -41,7 +44,9 @@ loop-less : tie.Need-loop-less Inv-loop μ-loop
 loop-less c = omega arith
 
 loop-again : tie.Need-loop-again Inv-loop μ-loop
-loop-again c = (omega arith, below-more _ _ (c .before .before .before .before .loop .inv .1) (cc))
+loop-again c =
+    let clear = told 1 1000 (c .before .outside .ensures) (c .before .before .word-at .ensures .is) (c .if1 .left) in
+    (omega arith, below-more _ _ (c .before .before .before .before .loop .inv .1) clear)
 
 returns-2 : tie.Need-returns-2 Inv-loop μ-loop
 unfolding badWeight

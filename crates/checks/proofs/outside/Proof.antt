@@ -1,7 +1,7 @@
--- `job::outside` meets its contract: below the low bound, and else what the second test says.
+-- `checks::outside` meets its contract: below the low bound, and else what the second test says.
 use borrow.Author.Tests.{lt-ltb, le-ltb}
-use Rattle.job.proofs.outside.Statement.{statement}
-use Rattle.job.proofs.outside.Tie as tie
+use Rattle.checks.proofs.outside.Statement.{statement}
+use Rattle.checks.proofs.outside.Tie as tie
 
 returns : tie.Need-returns
 returns c = rw (lt-ltb _ _ (c .if1 .taken))

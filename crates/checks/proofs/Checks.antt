@@ -1,6 +1,6 @@
 -- What is left of the refusals behind each stage, in the numbers that the code has read: n rows and width m.
 use mathlib.Core.Path.{_≡_, sym, _∙_}
-use mathlib.Core.Bool.{true, false, not}
+use mathlib.Core.Bool.{Bool, true, false, not}
 use Prim.Native.Nat.{ℕ, _+_, _*_, _≤_}
 use native.Mathlib.Nat.{mul-le-mul-right}
 use native.Mathlib.Omega.{arith}
@@ -8,11 +8,11 @@ use lib.Dec.{ltb, eqb}
 use lib.ListN.{length}
 use borrow.Author.Tests.{le-ltb, eq-eqb, ne-eqb}
 use Rattle.rules.specs.Answers.{when_refuse_else_, passed}
-use Rattle.rules.specs.Job.{Bytes, word, badWeight, badState, checked}
+use Rattle.rules.specs.Job.{Bytes, word, outside, badWeight, badState, checked}
 use Rattle.rules.specs.declared.Answer.{Answer}
 use Rattle.rules.specs.declared.Answer.the-variants.{Layout, Weight, State}
 use Rattle.rules.proofs.Job.{inside}
-use Rattle.job.specs.Stages.{Sized, LaidOut}
+use Rattle.checks.specs.Stages.{Sized, LaidOut}
 
 -- A field that was read, held against the number that it must be.
 module _ {read field y : ℕ} (is : read ≡ field) where
@@ -21,6 +21,10 @@ module _ {read field y : ℕ} (is : read ≡ field) where
 
   pub differ : (read ≡ y → ⊥) → eqb field y ≡ false
   differ h = ne-eqb _ _ (λ e. h (is ∙ e))
+
+-- What the code was told of a number that it has read, said of the field itself.
+pub told : {read field : ℕ} {r t : Bool} (low high : ℕ) → r ≡ outside low high read → read ≡ field → r ≡ t → outside low high field ≡ t
+told low high e is t = rw (← is) (sym e ∙ t)
 
 -- WEIGHT and STATE.
 abbrev contents : Bytes → ℕ → ℕ → Answer

@@ -1,10 +1,11 @@
--- `job::check` meets its contract: HEAD, ROWS and WIDTH are tried in their order.
+-- `checks::check` meets its contract: HEAD, ROWS and WIDTH are tried in their order.
+use mathlib.Core.Path.{sym, _∙_}
 use native.Mathlib.Omega.{arith}
 use borrow.Author.Tests.{lt-ltb, le-ltb}
 use Rattle.rules.specs.Job.{checked}
 use Rattle.rules.proofs.Job.{within}
-use Rattle.job.proofs.check.Statement.{statement}
-use Rattle.job.proofs.check.Tie as tie
+use Rattle.checks.proofs.check.Statement.{statement}
+use Rattle.checks.proofs.check.Tie as tie
 
 returns : tie.Need-returns
 unfolding checked
@@ -47,9 +48,17 @@ check-layout-requires : tie.Need-check-layout-requires
 check-layout-requires c κs =
     let w2 = c .before .before in
     let w = w2 .before .before .before in
-    let n = within 1 256 (w .word-at .result) (cc) in
-    let m = within 1 64 (w2 .word-at2 .result) (cc) in
-    omega arith
+    let n = within 1 256 _ (sym (w2 .before .before .outside .ensures) ∙ w2 .before .if2 .left) in
+    let m = within 1 64 _ (sym (c .before .outside2 .ensures) ∙ c .if3 .left) in
+    record {
+      head = w .before .if1 .left;
+      rows-are = w .word-at .ensures .is;
+      some-rows = n .at-least;
+      few-rows = n .at-most;
+      width-is = w2 .word-at2 .ensures .is;
+      some-width = m .at-least;
+      small-width = m .at-most;
+    }
 
 returns-4 : tie.Need-returns-4
 returns-4 c = c .check-layout .ensures
