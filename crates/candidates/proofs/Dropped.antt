@@ -14,27 +14,21 @@ use Rattle.rules.proofs.Between.{half-way, middle-u, middle-v, middle-w}
 use Rattle.types.specs.State.{storedAt}
 use Rattle.types.proofs.State.{length-storedAt}
 use Rattle.distances.specs.Area.{cellAt, Weighed}
-use Rattle.medians.specs.Cost.{costAt}
-use Rattle.medians.proofs.Stored.{cost-any, cost-bound}
+use Rattle.medians.proofs.Stored.{cost-bound}
 use Rattle.triplets.specs.Triplet.{canMatter}
 use Rattle.triplets.specs.declared.Triplet.{Triplet}
 use Rattle.triplets.proofs.Order.{Between, can-matter-not}
 use Rattle.search.specs.Swept.{Gives}
+use Rattle.search.proofs.Considering.{gives-cost}
 use Rattle.candidates.specs.Candidate.{Faithful}
 
 -- Three types that ascend, of those made.
 module _ {ws : List ℕ} {states : Bytes} {made : ℕ} {t : Triplet} (weighed : Weighed ws) (lie : 64 * made ≤ length states)
     (rising : (t .u < t .v) × (t .v < t .w)) (inside : t .w < made) where
-  -- What they give costs what their median vectors cost.
-  pub gives-cost : {x : Bytes} {cost : ℕ} → Gives ws states made t x cost → cost ≡ costAt ws states (t .u) (t .v) (t .w)
-  gives-cost g =
-      g .cost-is
-      ∙ rw (g .row-is)
-      (cost-any ws states (t .u) (t .v) (t .w) weighed (omega arith) (omega arith) (omega arith) (g .number) (g .below-three))
-
+  -- What they give costs little.
   pub gives-small : {x : Bytes} {cost : ℕ} → Gives ws states made t x cost → cost ≤ 128000
   gives-small g =
-      omega (arith, gives-cost g, cost-bound ws states (t .u) (t .v) (t .w) weighed (omega arith) (omega arith) (omega arith))
+      omega (arith, gives-cost weighed lie (omega arith) (omega arith) inside g, cost-bound ws states (t .u) (t .v) (t .w) weighed (omega arith) (omega arith) (omega arith))
 
   -- The distance area tells the truth of them.
   module _ {area : List ℕ} {n : ℕ} (faithful : Faithful ws states area n) (current : t .w < n) where
@@ -53,7 +47,7 @@ module _ {ws : List ℕ} {states : Bytes} {made : ℕ} {t : Triplet} (weighed : 
       -- A type that is every median vector is no new row.
       not-new : (i : ℕ) → i ≤ t .w →
           ((k : ℕ) → k < 3 → rowAt (medians (storedAt states (t .u)) (storedAt states (t .v)) (storedAt states (t .w))) k ≡ storedAt states i) → ⊥
-      not-new i h all = g .unmade i (omega arith) (sym (g .row-is ∙ all (g .number) (g .below-three)))
+      not-new i h all = g .unmade i (omega arith) (sym (g .median .row-is ∙ all (g .median .number) (g .median .below-three)))
 
       -- So no type lies between the other two.
       not-between : Between (cellAt area (t .u) (t .v)) (cellAt area (t .u) (t .w)) (cellAt area (t .v) (t .w)) → ⊥
@@ -80,7 +74,7 @@ module _ {ws : List ℕ} {states : Bytes} {made : ℕ} {t : Triplet} (weighed : 
           ⊎-elim
           (λ far. omega (
             arith,
-            gives-cost g,
+            gives-cost weighed lie (omega arith) (omega arith) inside g,
             half-way ws (storedAt states (t .u)) (storedAt states (t .v)) (storedAt states (t .w)) (long (t .u) (omega arith)),
             faithful .measured (t .u) (t .v) (omega arith) (omega arith),
             faithful .measured (t .u) (t .w) (omega arith) current,

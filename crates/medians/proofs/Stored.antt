@@ -12,8 +12,8 @@ use Rattle.rules.specs.Types.{rowAt}
 use Rattle.rules.specs.Distance.{distance}
 use Rattle.rules.specs.Median.{median, medians, connection}
 use Rattle.rules.specs.Call.{padded}
-use Rattle.rules.proofs.Median.{same-connection}
-use Rattle.rules.proofs.Between.{median-state, median-is, length-median, common-held, each-median, one-of-length}
+use Rattle.rules.proofs.Median.{same-connection, median-state, length-median}
+use Rattle.rules.proofs.Between.{median-is, common-held, each-median, one-of-length}
 use Rattle.types.specs.State.{stored, storedAt}
 use Rattle.types.proofs.State.{length-stored, length-storedAt}
 use Rattle.distances.specs.Area.{Weighed}

@@ -16,7 +16,8 @@ use Rattle.rules.specs.Median.{twoOf, triplet, medians, connection}
 use Rattle.rules.specs.Purge.{Run, linksOf}
 use Rattle.rules.specs.Round.{Offer, made, offers}
 use Rattle.rules.proofs.Rows.{same-row}
-use Rattle.rules.proofs.Between.{length-median, each-median, one-of-length}
+use Rattle.rules.proofs.Median.{length-median}
+use Rattle.rules.proofs.Between.{each-median, one-of-length}
 use Rattle.rules.proofs.Rounds.{Medial, in-offers, offer-width}
 use Rattle.types.specs.State.{stored, storedAt}
 use Rattle.types.proofs.State.{stored-same}
@@ -87,16 +88,15 @@ module _ {weights : List ℕ} {m : ℕ} {ws : List ℕ} {run : Run} {states : By
         Gives weights states (held .state .made) t (stored (o .row)) (o .cost) ↔ Medial ws (made run) (rowOf run (t .u)) (rowOf run (t .v)) (rowOf run (t .w)) o
     gives-medial o l = (
       λ g. record {
-        number = g .number;
-        below = g .below-three;
-        row-is = stored-equal (o .row) _ (l ∙ sym (median-wide (g .number) (g .below-three))) (g .row-is ∙ stored-number (g .number) (g .below-three));
+        number = g .median .number;
+        below = g .median .below-three;
+        row-is = stored-equal (o .row) _ (l ∙ sym (median-wide (g .median .number) (g .median .below-three)))
+            (g .median .row-is ∙ stored-number (g .median .number) (g .median .below-three));
         cost-is = g .cost-is ∙ stored-cost (o .row) l;
         unknown = unmade-is (o .row) l .1 (g .unmade);
       },
       λ r. record {
-        number = r .number;
-        below-three = r .below;
-        row-is = ap stored (r .row-is) ∙ sym (stored-number (r .number) (r .below));
+        median = record { number = r .number; below-three = r .below; row-is = ap stored (r .row-is) ∙ sym (stored-number (r .number) (r .below)) };
         cost-is = r .cost-is ∙ sym (stored-cost (o .row) l);
         unmade = unmade-is (o .row) l .0 (r .unknown);
       },
@@ -135,14 +135,14 @@ module _ {weights : List ℕ} {m : ℕ} {ws : List ℕ} {run : Run} {states : By
         (o : Offer) × In o (offers ws e run) × (stored (o .row) ≡ x) × (o .cost ≡ cost)
     candidate-offer x cost c =
         let t = c .triplet in
-        let k = c .gives .number in
-        let l = c .gives .below-three in
+        let k = c .gives .median .number in
+        let l = c .gives .median .below-three in
         let i = c .is-triplet in
         let hw = i .current in
         let hv : t .v < n = omega (arith, i .rising) in
         let hu : t .u < n = omega (arith, i .rising) in
         let o : Offer = record { row = rowAt (medians (rowOf run (t .u)) (rowOf run (t .v)) (rowOf run (t .w))) k; cost = cost } in
-        let is : stored (o .row) ≡ x = sym (c .gives .row-is ∙ stored-number t hu hv hw k l) in
+        let is : stored (o .row) ≡ x = sym (c .gives .median .row-is ∙ stored-number t hu hv hw k l) in
         let count = current-count carries few in (
           o,
           in-offers ws e run o .1 (record {

@@ -11,13 +11,13 @@ use lib.Dec.{eqb}
 use lib.ListN.{length, getD}
 use borrow.Author.Tests.{eqb-true, eqb-false, eq-eqb, ne-eqb}
 use Rattle.graph.specs.Below.{sum, table}
-use Rattle.graph.proofs.Below.{last-or, table-ext, length-table, getD-table, table-getD, sum-ext, sum-le, sum-plus}
+use Rattle.graph.proofs.Below.{last-or, table-ext, table-getD, sum-ext, sum-le, sum-plus}
 use Rattle.rules.specs.Job.{Row}
 use Rattle.rules.specs.Types.{rowAt}
 use Rattle.rules.specs.Distance.{difference, distance}
 use Rattle.rules.specs.Median.{common, median, medians, connection}
 use Rattle.rules.proofs.Distance.{distance-sym}
-use Rattle.rules.proofs.Median.{OneOf, gap, gaps, by-character}
+use Rattle.rules.proofs.Median.{OneOf, gap, gaps, by-character, median-state, length-median}
 
 -- Of three states all are the same, or two are, or none.
 module _ (a b c : ℕ) where
@@ -98,15 +98,6 @@ module _ (k a b c : ℕ) where
       (λ e g t. absurd (omega arith))
       refl
       refl
-
--- The state of a median vector, and its length.
-pub median-state : (x u v w : Row) (c : ℕ) → c < length x → getD (median x u v w) c 0 ≡ common (getD x c 0) (getD u c 0) (getD v c 0) (getD w c 0)
-unfolding median
-median-state x u v w c h = getD-table (length x) (λ c. common (getD x c 0) (getD u c 0) (getD v c 0) (getD w c 0)) c 0 h
-
-pub length-median : (x u v w : Row) → length (median x u v w) ≡ length x
-unfolding median
-length-median x u v w = length-table (length x) _
 
 -- A median vector is the row that has its states.
 pub median-is : (x u v w y : Row) → length x ≡ length y →

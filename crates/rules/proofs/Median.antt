@@ -10,7 +10,7 @@ use lib.Dec.{eqb}
 use lib.ListN.{length, getD}
 use borrow.Author.Tests.{eq-eqb, ne-eqb, eqb-false}
 use Rattle.graph.specs.Below.{sum}
-use Rattle.graph.proofs.Below.{sum-ext, sum-plus, getD-table}
+use Rattle.graph.proofs.Below.{sum-ext, sum-plus, length-table, getD-table}
 use Rattle.rules.specs.Job.{Row}
 use Rattle.rules.specs.Distance.{difference, distance}
 use Rattle.rules.specs.Median.{common, median, connection}
@@ -46,6 +46,15 @@ module _ (k a b c : ℕ) where
       go false e false f true i = refl
       go false e false f false i = all-differ x e f i h ∙ sym (all-differ y e f i g)
 
+-- The states of a median vector, and its length.
+pub median-state : (x u v w : Row) (c : ℕ) → c < length x → getD (median x u v w) c 0 ≡ common (getD x c 0) (getD u c 0) (getD v c 0) (getD w c 0)
+unfolding median
+median-state x u v w c h = getD-table (length x) (λ c. common (getD x c 0) (getD u c 0) (getD v c 0) (getD w c 0)) c 0 h
+
+pub length-median : (x u v w : Row) → length (median x u v w) ≡ length x
+unfolding median
+length-median x u v w = length-table (length x) _
+
 module _ (ws : List ℕ) (u v w : Row) where
   -- The cost, summed character by character.
   pub by-character : (x : Row) → connection ws x u v w ≡ sum (length ws) (λ c. gaps (getD ws c 0) (getD x c 0) (getD u c 0) (getD v c 0) (getD w c 0))
@@ -56,7 +65,6 @@ module _ (ws : List ℕ) (u v w : Row) where
 
   pub same-connection : (x y : Row) → length x ≡ length ws → length y ≡ length ws → OneOf x u v w → OneOf y u v w →
       connection ws (median x u v w) u v w ≡ connection ws (median y u v w) u v w
-  unfolding median
   same-connection x y lx ly h g = by-character _ ∙ sum-ext (length ws) _ _ same ∙ sym (by-character _)
     where
       state : (z : Row) (c : ℕ) → OneOf z u v w → OneOf (getD z c 0) (getD u c 0) (getD v c 0) (getD w c 0)
@@ -66,7 +74,7 @@ module _ (ws : List ℕ) (u v w : Row) where
 
       at : (z : Row) (c : ℕ) → length z ≡ length ws → c < length ws →
           getD (median z u v w) c 0 ≡ common (getD z c 0) (getD u c 0) (getD v c 0) (getD w c 0)
-      at z c lz l = getD-table (length z) (λ c. common (getD z c 0) (getD u c 0) (getD v c 0) (getD w c 0)) c 0 (rw lz l)
+      at z c lz l = median-state z u v w c (rw lz l)
 
       same : (c : ℕ) → c < length ws → gaps (getD ws c 0) (getD (median x u v w) c 0) (getD u c 0) (getD v c 0) (getD w c 0)
           ≡ gaps (getD ws c 0) (getD (median y u v w) c 0) (getD u c 0) (getD v c 0) (getD w c 0)

@@ -9,7 +9,8 @@ use lib.Dec.{ltb}
 use lib.ListN.{length}
 use Rattle.rules.specs.Job.{Bytes}
 use Rattle.rules.specs.Median.{connection}
-use Rattle.rules.proofs.Between.{length-median, each-median, one-of-length}
+use Rattle.rules.proofs.Median.{length-median}
+use Rattle.rules.proofs.Between.{each-median, one-of-length}
 use Rattle.types.specs.State.{storedAt}
 use Rattle.types.proofs.State.{length-storedAt}
 use Rattle.distances.specs.Area.{Weighed}
@@ -28,6 +29,18 @@ use Rattle.search.proofs.Taking.{swept-taken}
 abbrev pub costOf : List ℕ → Bytes → Triplet → ℕ
 costOf ws states t = costAt ws states (t .u) (t .v) (t .w)
 
+-- The types of a triplet are among those made: each of its median vectors costs the same, and so does what it gives.
+module _ {ws : List ℕ} {states : Bytes} {made : ℕ} {t : Triplet} (weighed : Weighed ws) (lie : 64 * made ≤ length states)
+    (u-made : t .u < made) (v-made : t .v < made) (w-made : t .w < made) where
+  median-cost : {row : Bytes} → IsMedian states t row →
+      connection ws row (storedAt states (t .u)) (storedAt states (t .v)) (storedAt states (t .w)) ≡ costOf ws states t
+  median-cost m =
+      rw (m .row-is)
+      (cost-any ws states (t .u) (t .v) (t .w) weighed (omega arith) (omega arith) (omega arith) (m .number) (m .below-three))
+
+  pub gives-cost : {x : Bytes} {cost : ℕ} → Gives ws states made t x cost → cost ≡ costOf ws states t
+  gives-cost g = g .cost-is ∙ median-cost (g .median)
+
 module _ {states : Bytes} {s : Search} {t : Triplet} (inside : Inside states s t) where
   -- A type of the rows made lies in the state area.
   lies : (i : ℕ) → i < s .made → 64 * i + 64 ≤ length states
@@ -45,16 +58,8 @@ module _ {states : Bytes} {s : Search} {t : Triplet} (inside : Inside states s t
       (m .number) (m .below-three)
 
   module _ {ws : List ℕ} (weighed : Weighed ws) where
-    -- Its cost is the triplet's.
-    median-cost : {row : Bytes} → IsMedian states t row →
-        connection ws row (storedAt states (t .u)) (storedAt states (t .v)) (storedAt states (t .w)) ≡ costOf ws states t
-    median-cost m =
-        rw (m .row-is)
-        (cost-any ws states (t .u) (t .v) (t .w) weighed (lies _ (inside .u-made)) (lies _ (inside .v-made)) (lies _ (inside .w-made))
-        (m .number) (m .below-three))
-
-    gives-cost : {x : Bytes} {cost : ℕ} → Gives ws states (s .made) t x cost → cost ≡ costOf ws states t
-    gives-cost g = g .cost-is ∙ median-cost (record { number = g .number; below-three = g .below-three; row-is = g .row-is })
+    cost-here : {x : Bytes} {cost : ℕ} → Gives ws states (s .made) t x cost → cost ≡ costOf ws states t
+    cost-here = gives-cost weighed (inside .lie) (inside .u-made) (inside .v-made) (inside .w-made)
 
     module _ (found row : Bytes) where
       -- What is asked for, and what may be given.
@@ -75,7 +80,7 @@ module _ {states : Bytes} {s : Search} {t : Triplet} (inside : Inside states s t
 
       -- The triplet's cost does not matter.
       pub considered-dear : {cost : ℕ} → cost ≡ costOf ws states t → s .below ≤ cost → Considered found s
-      considered-dear is dear = swept-none (λ x cost g. inl (omega (arith, gives-cost (g .1)))) (inside .room)
+      considered-dear is dear = swept-none (λ x cost g. inl (omega (arith, cost-here (g .1)))) (inside .room)
 
       module _ {r : Bool} (is : r ≡ ltb (placeOf states (s .made) found (s .count) row) (s .made + s .count)) where
         -- The row is known.
@@ -89,12 +94,10 @@ module _ {states : Bytes} {s : Search} {t : Triplet} (inside : Inside states s t
             let new : IsKnown states (s .made) found (s .count) row → ⊥ =
             λ known. false≢true (sym e ∙ is ∙ known-is states (s .made) found (s .count) row .1 known) in
             rw (took .0, took .1) (swept-taken (GivesRow ws states (s .made) t row) (Gives ws states (s .made) t) found s row cost
-            (λ x c g. (g .0, gives-cost (g .1) ∙ sym cost-is))
+            (λ x c g. (g .0, cost-here (g .1) ∙ sym cost-is))
             (record {
-              number = m .number;
-              below-three = m .below-three;
-              row-is = m .row-is;
-              cost-is = cost-is ∙ sym (median-cost m);
+              median = m;
+              cost-is = cost-is ∙ sym (median-cost weighed (inside .lie) (inside .u-made) (inside .v-made) (inside .w-made) m);
               unmade = λ i h z. new (inl (i, h, z));
             })
             matters (λ k h z. new (inr (k, h, z))) (inside .room) (median-wide m) size)

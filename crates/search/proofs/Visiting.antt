@@ -59,11 +59,11 @@ module _ (states : Bytes) (t : Triplet) {rows : List Bytes} (are : rows ≡ medi
         let v = wide inside (t .v) (inside .v-made) in
         let w = wide inside (t .w) (inside .w-made) in
         let alike = alike-medians _ _ _ (v ∙ sym u) (w ∙ sym u) (same-at 0 ∙ same ∙ sym (same-at 1)) in
-        swept-as (λ x cost g. (g .row-is ∙ alike (g .number) (g .below-three) ∙ same-at 0, g)) (λ x cost g. g)
+        swept-as (λ x cost g. (g .median .row-is ∙ alike (g .median .number) (g .median .below-three) ∙ same-at 0, g)) (λ x cost g. g)
 
     -- Otherwise each is one of the three.
     which : (made : ℕ) (x : Bytes) (cost : ℕ) → Given made x cost → Asked 0 made x cost ⊎ (Asked 1 made x cost ⊎ Asked 2 made x cost)
-    which made x cost g = by-number (g .number) (g .below-three) (g .row-is)
+    which made x cost g = by-number (g .median .number) (g .median .below-three) (g .median .row-is)
       where
         by-number : (k : ℕ) → k < 3 → x ≡ rowAt (mediansOf states t) k → Asked 0 made x cost ⊎ (Asked 1 made x cost ⊎ Asked 2 made x cost)
         by-number zero h e = inl (e ∙ same-at 0, g)

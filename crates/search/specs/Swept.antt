@@ -20,9 +20,7 @@ pub record IsMedian (states : Bytes) (t : Triplet) (row : Bytes) : Type 0 where
 
 -- A triplet of stored types gives a row at a cost: it is a median vector of theirs, and none of the rows made.
 pub record Gives (ws : List ℕ) (states : Bytes) (made : ℕ) (t : Triplet) (x : Bytes) (cost : ℕ) : Type 0 where
-  pub number : ℕ
-  pub below-three : number < 3
-  pub row-is : x ≡ rowAt (medians (storedAt states (t .u)) (storedAt states (t .v)) (storedAt states (t .w))) number
+  pub median : IsMedian states t x
   pub cost-is : cost ≡ connection ws x (storedAt states (t .u)) (storedAt states (t .v)) (storedAt states (t .w))
   pub unmade : (i : ℕ) → i < made → storedAt states i ≢ x
 
