@@ -28,18 +28,18 @@ consider-requires c κs =
 slice-aggregate-alike : tie.Need-slice-aggregate-alike
 slice-aggregate-alike c =
     let m = c .before .before .before .before .before .before .before .before .before .before .before .before in
-    sym (median-wide (m .before .before .before .before .before .pre .1) (is-median _ _ (m .medians .ensures) 0 (omega arith)))
+    sym (median-wide (m .before .before .before .before .before .pre .1) (is-median _ _ (m .medians .ensures) _ (omega arith)))
 
 slice-aggregate-alike-2 : tie.Need-slice-aggregate-alike-2
 slice-aggregate-alike-2 c =
     let m = c .before .before .before .before .before .before .before .before .before .before .before .before .before in
-    sym (median-wide (m .before .before .before .before .before .pre .1) (is-median _ _ (m .medians .ensures) 1 (omega arith)))
+    sym (median-wide (m .before .before .before .before .before .pre .1) (is-median _ _ (m .medians .ensures) _ (omega arith)))
 
 alike-requires : tie.Need-alike-requires
 alike-requires c κs =
     let m = c .before .before .before .before .before .before .before .before .before .before .before .before .before in
     let i = m .before .before .before .before .before .pre .1 in
-    (median-wide i (is-median _ _ (m .medians .ensures) 0 (omega arith)), median-wide i (is-median _ _ (m .medians .ensures) 1 (omega arith)))
+    (median-wide i (is-median _ _ (m .medians .ensures) _ (omega arith)), median-wide i (is-median _ _ (m .medians .ensures) _ (omega arith)))
 
 same-length : tie.Need-same-length
 same-length c = search needs
