@@ -1,7 +1,8 @@
--- What is claimed of the rules in document 01, in one page. Each claim is stated in the words of specs/ and proved by what it cites.
+-- What is claimed, in one page: of document 01's rules, of the public functions' contracts, and of the bytes that a call leaves. Each claim
+-- is stated in the words of specs/ and proved by what it cites.
 use mathlib.Core.Path.{_≡_, sym, _∙_}
 use mathlib.Core.Logic.{_↔_, _≢_}
-use mathlib.Core.List.{List}
+use mathlib.Core.List.{List, []}
 use Prim.Native.Nat.{ℕ, _≤_, _<_}
 use lib.Dec.{T}
 use lib.ListN.{length, getD, replicate}
@@ -15,22 +16,29 @@ use Rattle.rules.specs.Round.{made}
 use Rattle.rules.specs.Run.{PhaseOne, phaseOne, phaseOneIn, Network}
 use Rattle.rules.specs.Result.{blockLength}
 use Rattle.rules.specs.Lookup.{lookup}
-use Rattle.rules.specs.Call.{found, verdict, answer, resultAfter, Served}
-use Rattle.rules.specs.Text.{digits, decimal}
+use Rattle.rules.specs.Call.{found, verdict, answer, resultAfter}
+use Rattle.rules.specs.Text.{digits, decimal, printed}
 use Rattle.rules.specs.Cases.{all-hold, cases}
 use Rattle.rules.specs.declared.Answer.{Answer}
 use Rattle.rules.specs.declared.Answer.the-variants.{Split}
-use Rattle.rules.specs.declared.Link.{Link}
 use Rattle.rules.proofs.Table as table
 use Rattle.rules.proofs.Ends as ends
 use Rattle.rules.proofs.Decimals as decimals
+use Rattle.found.specs.ReadBack.{readBack}
+use Rattle.found.proofs.Found as network
+use Rattle.found.proofs.Result as result
+use Rattle.text.specs.Printed.{TextLeft, textOf}
+use Rattle.text.specs.declared.Printed.{Printed}
+use Rattle.text.proofs.Once as text
+use Rattle.service.proofs.Text as service
 use Rattle.claims.specs.Drawing.{Drawn}
 use Rattle.claims.specs.Refusals.{Condition}
-use Rattle.claims.specs.ReadBack.{readBack}
-use Rattle.claims.proofs.Found as network
+use Rattle.claims.specs.Calls.{Memory, SameLengths, lengthsOf, Calls}
+use Rattle.claims.specs.Handed.{Handed}
 use Rattle.claims.proofs.Drawn as drawing
 use Rattle.claims.proofs.Refusals as refusals
-use Rattle.claims.proofs.Result as result
+use Rattle.claims.proofs.Calls as calls
+use Rattle.claims.proofs.Handed as handed
 
 -- ── The P cases ──
 
@@ -38,52 +46,59 @@ use Rattle.claims.proofs.Result as result
 pub p-cases : T (all-hold cases)
 p-cases = table.table-holds
 
--- ── Demand 1: every job gets an answer, and nothing of an earlier job shows ──
+-- ── Demand 1: every job gets an answer, and nothing of an earlier job shows (`Called`, the contract of `call`) ──
 
--- Two calls that do what is promised, lent the same lengths for the same job, give the same answer and leave the same contents,
--- whatever lay in the memory before.
-pub same-service : (lent : Lent) (job : Bytes) (r r′ : Answer) (result result′ states states′ : Bytes) (distances distances′ : List ℕ) (links links′ : List Link) →
-    Served lent job r result states distances links → Served lent job r′ result′ states′ distances′ links′ →
-    (r ≡ r′) × (result ≡ result′) × (states ≡ states′) × (distances ≡ distances′) × (links ≡ links′)
-same-service lent job r r′ result result′ states states′ distances distances′ links links′ a b = (
-  a .answered ∙ sym (b .answered),
-  a .result-left ∙ sym (b .result-left),
-  a .states-left ∙ sym (b .states-left),
-  a .distances-left ∙ sym (b .distances-left),
-  a .links-left ∙ sym (b .links-left),
-)
+-- Two calls for the same job, lent memory of the same lengths, give the same answer and leave the same contents, whatever lay in the memory
+-- before. With the same memory before, this says that the contract leaves no choice.
+pub same-calls : (job : Bytes) (before before′ after after′ : Memory) (r r′ : Answer) → SameLengths before before′ →
+    Calls job before r after → Calls job before′ r′ after′ → (r ≡ r′) × (after ≡ after′)
+same-calls job before before′ after after′ r r′ s a b =
+    (calls.same-answer job before before′ after after′ r r′ s a b, calls.same-memory job before before′ after after′ r r′ s a b)
+
+module _ (job : Bytes) (before after : Memory) (r : Answer) (call : Calls job before r after) where
+  -- All work memory is zero to its own end.
+  pub work-zero : (after .states ≡ replicate (length (before .states)) 0) × (after .distances ≡ replicate (length (before .distances)) 0)
+      × (after .links ≡ replicate (length (before .links)) 0)
+  work-zero = (call .served .states-left, call .served .distances-left, call .table-left)
+
+  -- So is the result past the bytes used; a refusal uses none.
+  pub past-zero : (k : ℕ) → used r ≤ k → getD (after .result) k 0 ≡ 0
+  past-zero = calls.past-zero job before after r call
+
+  -- ── Demand 2: each refusal is given exactly when its condition holds and no earlier one does ──
+
+  pub refused-exactly : (a : Answer) → number a ≢ 0 →
+      (r ≡ a) ↔ (Condition (lengthsOf before) job a × ((b : Answer) → number b < number a → ¬ Condition (lengthsOf before) job b))
+  refused-exactly a n = rw (call .served .answered) (refusals.refused-exactly (lengthsOf before) job a n)
+
+  -- No refusal is given exactly if no condition holds.
+  pub accepted : (number r ≡ 0) ↔ ((a : Answer) → ¬ Condition (lengthsOf before) job a)
+  accepted = rw (call .served .answered) (refusals.accepted (lengthsOf before) job)
+
+  pub never-split : r ≢ Split
+  never-split = rw (call .served .answered) (refusals.never-split-answer (lengthsOf before) job)
+
+  -- ── Demand 3: what the bytes left in the result draw ──
+
+  -- A link is drawn exactly if some cheapest tree over the kept types has it, and the rest of Drawing.antt.
+  pub drawn-bytes : number r ≡ 0 → Drawn job (readBack job (after .result))
+  drawn-bytes = calls.drawn-bytes job before after r call
+
+-- ── The network behind the bytes ──
 
 module _ (lent : Lent) (job : Bytes) where
-  -- The result keeps the length lent and holds bytes; after a refusal it is zero throughout.
+  -- The result keeps the length lent and holds bytes.
   pub result-length : length (resultAfter lent job) ≡ lent .result
   result-length = result.result-length lent job
 
   pub result-bytes : (k : ℕ) → k < length (resultAfter lent job) → getD (resultAfter lent job) k 0 < 256
   result-bytes k h = result.result-bytes lent job _ (in-at (resultAfter lent job) k 0 h)
 
-  pub refused-zero : number (answer lent job) ≢ 0 → resultAfter lent job ≡ replicate (lent .result) 0
-  refused-zero = result.refused-zero lent job
-
-  -- ── Demand 2: each refusal is given exactly when its condition holds and no earlier one does ──
-
-  pub refused-exactly : (a : Answer) → number a ≢ 0 →
-      (answer lent job ≡ a) ↔ (Condition lent job a × ((b : Answer) → number b < number a → ¬ Condition lent job b))
-  refused-exactly = refusals.refused-exactly lent job
-
-  -- No refusal is given exactly if no condition holds, and exactly if a network is found.
-  pub accepted : (number (answer lent job) ≡ 0) ↔ ((a : Answer) → ¬ Condition lent job a)
-  accepted = refusals.accepted lent job
-
+  -- A network is found exactly where no refusal is given.
   pub answered : (number (answer lent job) ≡ 0) ↔ ((net : Network) × (verdict lent job ≡ found net))
   answered = network.answered lent job
 
-  pub never-split : answer lent job ≢ Split
-  never-split = refusals.never-split-answer lent job
-
-  -- ── Demand 3: what is drawn ──
-
   module _ (net : Network) (e : verdict lent job ≡ found net) where
-    -- A link is drawn exactly if some cheapest tree over the kept types has it, and the rest of Drawing.antt.
     pub drawn : Drawn job net
     drawn = drawing.drawn lent job net e
 
@@ -97,6 +112,30 @@ module _ (lent : Lent) (job : Bytes) where
     -- The bytes used are those that 01 counts, and the least memory lent is enough for them.
     pub bytes-used : used (answer lent job) ≡ blockLength (length (net .types)) (length (sampled (jobRows job))) (width job) (length (net .links))
     bytes-used = result.used-is lent job net e
+
+-- ── The row lookup (the contract of `states_of` is an equation with `lookup`) ──
+
+module _ (job block : Bytes) (k : ℕ) where
+  -- Something is handed back exactly if 01's conditions hold, and then as many states as a row has.
+  pub handed-exactly : (lookup job block k ≢ []) ↔ Handed job block k
+  handed-exactly = handed.handed-exactly job block k
+
+  pub handed-length : Handed job block k → length (lookup job block k) ≡ width job
+  handed-length = handed.handed-length job block k
+
+  pub same-states : (xs ys : Bytes) → xs ≡ lookup job block k → ys ≡ lookup job block k → xs ≡ ys
+  same-states xs ys e f = e ∙ sym f
+
+-- ── The text (`TextLeft`, the contract of `text`) ──
+
+-- The contract leaves no choice.
+pub same-text : (job block : Bytes) (a : Answer) (lent : ℕ) (out out′ : Bytes) (r r′ : Printed) →
+    TextLeft job block a lent out r → TextLeft job block a lent out′ r′ → (out ≡ out′) × (r ≡ r′)
+same-text job block a lent out out′ r r′ p q = text.text-one p q
+
+-- The text of what a call leaves is the text that document 01 prints.
+pub printed-text : (lent : Lent) (job : Bytes) → textOf job (resultAfter lent job) (answer lent job) ≡ printed lent job
+printed-text = service.text-is
 
 -- ── No definition runs out of turns ──
 

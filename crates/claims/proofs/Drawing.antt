@@ -1,7 +1,7 @@
 -- Demand 3: what is drawn for a job is all cheapest trees over the kept types, laid over each other.
-use mathlib.Core.Path.{_≡_, ap}
+use mathlib.Core.Path.{_≡_}
 use mathlib.Core.Logic.{_↔_, _≢_, Iff·trans, Iff·symm}
-use mathlib.Core.Bool.{true, false, not}
+use mathlib.Core.Bool.{true}
 use mathlib.Core.List.{List}
 use Prim.Native.Nat.{ℕ, _<_}
 use lib.ListN.{length, length-map}
@@ -15,10 +15,10 @@ use Rattle.rules.specs.Types.{Node, rowsOf}
 use Rattle.rules.specs.Distance.{apart}
 use Rattle.rules.specs.Links.{FeasibleLink, linksAt, linkAt, linked}
 use Rattle.rules.specs.Purge.{Run, purge}
-use Rattle.rules.specs.Run.{phaseTwo, split}
+use Rattle.rules.specs.Run.{phaseTwo}
 use Rattle.rules.specs.declared.Link.{Link}
 use Rattle.rules.proofs.Distance.{apart-sym}
-use Rattle.rules.proofs.Links.{linked-in, linked-is, never-split}
+use Rattle.rules.proofs.Links.{linked-in, linked-is}
 use Rattle.claims.specs.Drawing.{Listed, JoinsAll}
 
 -- ── The links of any types ──
@@ -54,9 +54,3 @@ module _ (ws : List ℕ) (ts : List Node) where
 pub network-joined : (ws : List ℕ) (run : Run) → JoinsAll (phaseTwo ws run)
 unfolding phaseTwo
 network-joined ws run = listed-join ws (purge ws 0 run .current) 0
-
-pub never-split-network : (ws : List ℕ) (run : Run) → split (phaseTwo ws run) ≡ false
-unfolding phaseTwo
-never-split-network ws run =
-    let ts = purge ws 0 run .current in
-    ap not (rw (length-map ts (λ t. t .row)) at (never-split ws 0 (rowsOf ts)))

@@ -21,9 +21,9 @@ use Rattle.rules.proofs.Types.{row-counts}
 use Rattle.rules.proofs.Links.{links-at, links-order}
 use Rattle.rules.proofs.Ends.{purge-links}
 use Rattle.rules.proofs.Sound.{Sound}
+use Rattle.found.proofs.Found.{found-is, found-sound}
 use Rattle.claims.specs.Drawing.{Drawn}
 use Rattle.claims.proofs.Drawing.{listed-cheapest, network-joined}
-use Rattle.claims.proofs.Found.{found-is, found-sound}
 
 -- An inferred type counts no rows.
 inferred-round : (rounds : ℕ) (o : Origin) → InferredBy rounds o → (inferred o ≡ true) × (rowCount o ≡ 0)

@@ -1,7 +1,6 @@
 pub mod Drawing
-pub mod Found
 pub mod Drawn
 pub mod Refusals
-pub mod ReadBack
-pub mod Result
+pub mod Calls
+pub mod Handed
 pub mod Claims

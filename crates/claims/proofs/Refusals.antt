@@ -23,9 +23,10 @@ use Rattle.rules.specs.declared.Answer.{Answer}
 use Rattle.rules.specs.declared.Answer.the-variants.{Done, Area, Head, Rows, Width, Layout, Weight, State, Types, Room, Split}
 use Rattle.rules.proofs.Ends.{phase-same}
 use Rattle.rules.proofs.Types.{is-first, Nth, too-many, too-many-at, length-sampled, few-sampled}
-use Rattle.claims.specs.Refusals.{FirstOf, Outside, WrongField, weights-offset, states-offset, whole-length, bytes-lent, Type129, Runs, Condition}
-use Rattle.claims.proofs.Found.{unrefused, runs-outcome}
-use Rattle.claims.proofs.Drawing.{network-joined, never-split-network}
+use Rattle.found.specs.Runs.{Runs}
+use Rattle.found.proofs.Found.{never-split-network, unrefused, runs-outcome}
+use Rattle.claims.specs.Refusals.{FirstOf, Outside, WrongField, weights-offset, states-offset, whole-length, bytes-lent, Type129, Condition}
+use Rattle.claims.proofs.Drawing.{network-joined}
 
 -- ── The table by its numbers ──
 

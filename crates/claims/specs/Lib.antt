@@ -1,3 +1,4 @@
 pub mod Drawing
 pub mod Refusals
-pub mod ReadBack
+pub mod Calls
+pub mod Handed

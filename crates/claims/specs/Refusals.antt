@@ -5,13 +5,14 @@ use mathlib.Core.Logic.{_⊎_, _≢_}
 use mathlib.Core.List.{List}
 use Prim.Native.Nat.{ℕ, _+_, _*_, _<_}
 use lib.ListN.{length, take}
-use Rattle.rules.specs.Job.{Bytes, Row, word, rows, width, epsilon, weightAt, weights, stateAt, jobRows}
+use Rattle.rules.specs.Job.{Bytes, Row, word, rows, width, weightAt, weights, stateAt, jobRows}
 use Rattle.rules.specs.Lent.{Lent}
 use Rattle.rules.specs.Types.{rowAt, sampled}
 use Rattle.rules.specs.Purge.{Run}
-use Rattle.rules.specs.Run.{Outcome, settled, full, start, PhaseOne, phaseTwo}
+use Rattle.rules.specs.Run.{settled, full, phaseTwo}
 use Rattle.rules.specs.declared.Answer.{Answer}
 use Rattle.rules.specs.declared.Answer.the-variants.{Done, Area, Head, Rows, Width, Layout, Weight, State, Types, Room, Split}
+use Rattle.found.specs.Runs.{Runs}
 use Rattle.claims.specs.Drawing.{JoinsAll}
 
 -- Of the numbers below n, p is the first of which P holds.
@@ -36,10 +37,6 @@ pub record Type129 (rs : List Row) (p : ℕ) : Type 0 where
   pub below : p < length rs
   pub new : (i : ℕ) → i < p → rowAt rs i ≢ rowAt rs p
   pub before : length (sampled (take p rs)) ≡ 128
-
--- Phase I as it happens for a job.
-abbrev pub Runs : Bytes → Outcome → Type 0
-Runs job end = PhaseOne (weights job) (epsilon job) (start (jobRows job)) end
 
 -- The table: given when.
 abbrev pub Condition : Lent → Bytes → Answer → Type 0

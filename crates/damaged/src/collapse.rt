@@ -7,10 +7,10 @@ use crate::jobs;
 use crate::text::answer;
 use crate::text::number;
 use crate::text::put;
-use crate::text::tell;
+use answers::tell;
 use rules::Kind;
 use rules::Origin;
-use types::Sample;
+use sample::Sample;
 
 // Rows as numbers: 128 different ones over and over, and from a row on new ones.
 fn rows(new: usize) -> [u8; 256]
@@ -64,17 +64,17 @@ fn put_types(job: &[u8], lent: usize)
 {
     let job = &job[..lent];
     let checked = tell(checks::check(job));
-    if checked.0 != 0 {
+    if checked.number != 0 {
         answer(checked);
         return;
     }
     let header = job::header_of(job);
     let mut states = [170u8; 8192];
-    let sample = types::collapse(job, &mut states, header.rows, header.width);
+    let sample = sample::collapse(job, &mut states, header.rows, header.width);
     let refused = sample.answer;
     let collapsed = tell(refused);
     answer(collapsed);
-    if collapsed.0 == 0 {
+    if collapsed.number == 0 {
         put_sample(sample, &states, header.width);
     }
 }

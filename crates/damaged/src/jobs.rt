@@ -6,7 +6,8 @@ ghost use lib.ListN.{length, take};
 ghost use Rattle.rules.specs.Answers.{number, place};
 ghost use Rattle.rules.specs.Job.{checked};
 ghost use Rattle.damaged.specs.Change.{Allowed};
-use crate::text;
+use answers::Told;
+use answers::tell;
 use memory::put_word;
 
 // The k-th number of a job of n rows of m: its header, and weights from 1 to 1,000.
@@ -65,9 +66,9 @@ pub(crate) fn make(change: Change, job: &mut [u8], lent: usize) -> usize
 }
 
 // What the first bytes of a job are answered.
-pub(crate) fn check(job: &[u8], lent: usize) -> text::Told
+pub(crate) fn check(job: &[u8], lent: usize) -> Told
     requires { ⌜ lent ≤ length (now job) ⌝ }
-    ensures { λ r. ⌜ (r .0 ≡ number (checked (take lent (now (job .entry))))) × (r .1 ≡ place (checked (take lent (now (job .entry))))) ⌝ }
+    ensures { λ r. ⌜ (r .number ≡ number (checked (take lent (now (job .entry))))) × (r .place ≡ place (checked (take lent (now (job .entry))))) ⌝ }
 {
-    text::tell(checks::check(&job[..lent]))
+    tell(checks::check(&job[..lent]))
 }

@@ -19,7 +19,7 @@ fn sweep(name: &[u8], n: usize, m: usize, part: Part, first: usize, last: usize)
     for value in first + 1..last + 1 {
         let lent = jobs::make(Change(part, value), &mut job, whole);
         let new = jobs::check(&job, lent);
-        if new.0 != told.0 || new.1 != told.1 {
+        if new.number != told.number || new.place != told.place {
             run(name, start, value - 1, told);
             told = new;
             start = value;

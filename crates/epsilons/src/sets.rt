@@ -10,11 +10,11 @@ use crate::show::put_links;
 use crate::show::put_types;
 use distances::measure;
 use memory::copy;
-use purge::Held;
-use purge::Phase;
-use purge::State;
 use rules::Kind;
 use rules::Origin;
+use state::Held;
+use state::Phase;
+use state::State;
 use types::no_kinds;
 
 // Five weights, and none behind them.

@@ -4,9 +4,9 @@ ghost use mathlib.Core.Path.{_≡_};
 ghost use Prim.Native.Nat.{_≤_, _<_};
 ghost use lib.ListN.{length};
 use links::linked;
-use purge::Held;
 use rules::Kind;
 use rules::Origin;
+use state::Held;
 
 pub(crate) fn put(text: &[u8]) {
     io::write_all(1, text);

@@ -30,7 +30,7 @@ use Rattle.retire.proofs.Laid.{partedRows, parted-wide, parted-laid}
 use Rattle.links.specs.Marks.{Tells}
 use Rattle.purge.specs.Stay.{staying, Stays, Once}
 use Rattle.purge.specs.Holds.{Holds}
-use Rattle.purge.specs.declared.Held.{Held}
+use Rattle.state.specs.declared.Held.{Held}
 use Rattle.purge.specs.declared.Stay.{Stay}
 use Rattle.purge.proofs.Places.{stays-chosen, stays-kept}
 use Rattle.purge.proofs.Told.{staying-is}

@@ -12,10 +12,10 @@ use Rattle.memory.proofs.Placed.{length-placed}
 use Rattle.retire.specs.Left.{Chosen, parted}
 use Rattle.retire.proofs.Parted.{parted-size}
 use Rattle.links.specs.Marks.{Tells}
-use Rattle.purge.specs.State.{epsilonOf}
+use Rattle.state.specs.State.{epsilonOf}
 use Rattle.purge.specs.Stay.{staying, Stays, Once, Surveyed}
 use Rattle.purge.specs.Holds.{Holds, Purged}
-use Rattle.purge.specs.declared.Held.{Held}
+use Rattle.state.specs.declared.Held.{Held}
 use Rattle.purge.specs.declared.Stay.{Stay}
 use Rattle.purge.proofs.Places.{stays-chosen}
 use Rattle.purge.proofs.Staying.{stayIn}

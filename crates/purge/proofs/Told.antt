@@ -16,7 +16,7 @@ use Rattle.links.specs.Marks.{LinksFound, Tells}
 use Rattle.links.proofs.Told.{measures-still, told, counted}
 use Rattle.purge.specs.Stay.{obsoleteIn, staying, Stays}
 use Rattle.purge.specs.Holds.{Holds}
-use Rattle.purge.specs.declared.Held.{Held}
+use Rattle.state.specs.declared.Held.{Held}
 use Rattle.purge.specs.declared.Stay.{Stay}
 use Rattle.purge.proofs.Places.{some-go, none-goes}
 

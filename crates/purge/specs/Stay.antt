@@ -16,8 +16,8 @@ use Rattle.memory.specs.Placed.{placed}
 use Rattle.distances.specs.Area.{Written}
 use Rattle.retire.specs.Left.{Among, squeezed, KindsLeft, parted}
 use Rattle.links.specs.Marks.{markCount, LinksFound}
-use Rattle.purge.specs.State.{epsilonOf, keeping}
-use Rattle.purge.specs.declared.Held.{Held}
+use Rattle.state.specs.State.{epsilonOf, keeping}
+use Rattle.state.specs.declared.Held.{Held}
 use Rattle.purge.specs.declared.Stay.{Stay}
 
 -- How many links a type needs to stay: three if it is inferred, and none if it is sampled.

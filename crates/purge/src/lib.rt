@@ -1,12 +1,11 @@
 // The room of the purge: obsolete types go together, links are found afresh, until none is obsolete. A type that goes is retired:
-// its row moves behind the rows of all types made and stays known. Here stands the run's small state too. It writes the state
-// area and the distance area.
+// its row moves behind the rows of all types made and stays known. It writes the state area and the distance area.
 
 ghost use mathlib.Core.Path.{_≡_};
-ghost use Prim.Native.Nat.{_+_, _≤_, _<_};
+ghost use Prim.Native.Nat.{_≤_, _<_};
 ghost use lib.ListN.{length};
 ghost use Rattle.retire.specs.Left.{Chosen};
-ghost use Rattle.purge.specs.State.{epsilonOf, keeping, grown, secondPhase};
+ghost use Rattle.state.specs.State.{epsilonOf};
 ghost use Rattle.purge.specs.Stay.{neededBy, obsoleteIn, staying, Stays, Once, Surveyed};
 ghost use Rattle.purge.specs.Holds.{Purged};
 use links::find_links;
@@ -16,70 +15,7 @@ use retire::kinds_left;
 use retire::rows_left;
 use rules::Kind;
 use rules::Origin;
-
-// Phase I is at the job's epsilon, Phase II at epsilon 0.
-pub enum Phase {
-    One { epsilon: usize },
-    Two,
-}
-
-// The run's small state: how many types are current, how many were ever made, the rounds that added a type, the phase.
-pub struct State {
-    pub types: usize,
-    pub made: usize,
-    pub rounds: usize,
-    pub phase: Phase,
-}
-
-impl State {
-    // The epsilon that links are found at.
-    pub fn epsilon(self) -> usize
-        ensures { λ r. ⌜ r ≡ epsilonOf (self .phase) ⌝ }
-    {
-        let phase = self.phase;
-        match phase {
-            Phase::One { epsilon } => epsilon,
-            Phase::Two => 0,
-        }
-    }
-
-    // So many types stay current; the others are retired and count as made.
-    pub fn keeping(mut self, count: usize) -> Self
-        ensures { λ r. ⌜ r ≡ keeping self count ⌝ }
-    {
-        self.types = count;
-        self
-    }
-
-    // A round added so many types.
-    pub fn grown(mut self, count: usize) -> Self
-        requires { ⌜ (self .types ≤ 128) × (self .made + count ≤ 128) × (self .rounds ≤ 128) ⌝ }
-        ensures { λ r. ⌜ r ≡ grown self count ⌝ }
-    {
-        self.types += count;
-        self.made += count;
-        self.rounds += 1;
-        self
-    }
-
-    // Phase I is over.
-    pub fn second_phase(self) -> Self
-        ensures { λ r. ⌜ r ≡ secondPhase self ⌝ }
-    {
-        State {
-            types: self.types,
-            made: self.made,
-            rounds: self.rounds,
-            phase: Phase::Two,
-        }
-    }
-}
-
-// What of the run is held by value: its small state, and the kinds of its current types.
-pub struct Held {
-    pub state: State,
-    pub kinds: [Kind; 128],
-}
+use state::Held;
 
 // The places of the types that stay, ascending, and how many they are.
 pub struct Stay {

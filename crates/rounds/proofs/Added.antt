@@ -19,7 +19,7 @@ use Rattle.rules.proofs.Rounds.{AscendingRows, added-ascends, ascending-same, a
 use Rattle.rules.proofs.Window.{ascending-few, in-window, stored-ascends}
 use Rattle.types.specs.State.{stored, laid}
 use Rattle.links.specs.Marks.{Tells}
-use Rattle.purge.specs.declared.Held.{Held}
+use Rattle.state.specs.declared.Held.{Held}
 use Rattle.candidates.specs.Candidate.{Candidate, InWindow, All, Fresh}
 use Rattle.candidates.specs.declared.Added.{Added}
 use Rattle.rounds.specs.Rounded.{Carries, Crowded}

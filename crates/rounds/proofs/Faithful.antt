@@ -15,7 +15,7 @@ use Rattle.rules.specs.Round.{made}
 use Rattle.types.specs.State.{stored, storedAt}
 use Rattle.types.proofs.State.{OfWidth, stored-state}
 use Rattle.distances.proofs.Measured.{measured}
-use Rattle.purge.specs.declared.Held.{Held}
+use Rattle.state.specs.declared.Held.{Held}
 use Rattle.purge.proofs.Told.{rows-count}
 use Rattle.purge.proofs.Once.{current-few}
 use Rattle.candidates.specs.Candidate.{Faithful}

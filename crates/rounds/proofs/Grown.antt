@@ -20,7 +20,7 @@ use Rattle.types.proofs.State.{OfWidth, length-laid}
 use Rattle.distances.specs.Area.{cellAt, Measures}
 use Rattle.distances.proofs.Measured.{measures-new}
 use Rattle.purge.specs.Holds.{Holds}
-use Rattle.purge.specs.declared.Held.{Held}
+use Rattle.state.specs.declared.Held.{Held}
 use Rattle.rounds.specs.Grown.{kindsWith, Grew}
 use Rattle.rounds.proofs.Origins.{newNode, length-with, kinds-grown}
 use Rattle.rounds.proofs.Lying.{wide-front, wide-rear, wide-both, lies-current}

@@ -23,7 +23,7 @@ use Rattle.types.specs.State.{stored, storedAt}
 use Rattle.types.proofs.State.{stored-same}
 use Rattle.links.specs.Marks.{marked, Tells}
 use Rattle.links.proofs.Told.{marked-is}
-use Rattle.purge.specs.declared.Held.{Held}
+use Rattle.state.specs.declared.Held.{Held}
 use Rattle.purge.proofs.Once.{current-few}
 use Rattle.medians.proofs.Stored.{stored-medians, stored-connection}
 use Rattle.triplets.specs.declared.Triplet.{Triplet}

@@ -12,8 +12,8 @@ use Rattle.rules.specs.Purge.{Run}
 use Rattle.rules.specs.Round.{made}
 use Rattle.rules.specs.Run.{fresh}
 use Rattle.links.specs.Marks.{Tells}
-use Rattle.purge.specs.State.{epsilonOf}
-use Rattle.purge.specs.declared.Held.{Held}
+use Rattle.state.specs.State.{epsilonOf}
+use Rattle.state.specs.declared.Held.{Held}
 use Rattle.candidates.specs.Candidate.{Fresh}
 use Rattle.candidates.specs.declared.Added.{Added}
 use Rattle.rounds.specs.Grown.{Grew}

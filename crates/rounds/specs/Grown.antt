@@ -13,8 +13,8 @@ use Rattle.memory.specs.Placed.{placed}
 use Rattle.types.specs.State.{blank}
 use Rattle.distances.specs.Area.{Written, New, storedApart}
 use Rattle.retire.specs.Left.{rowsFrom}
-use Rattle.purge.specs.State.{grown}
-use Rattle.purge.specs.declared.Held.{Held}
+use Rattle.state.specs.State.{grown}
+use Rattle.state.specs.declared.Held.{Held}
 
 -- So many kinds behind the first t are those of types inferred in this round.
 unfoldable pub kindsWith : List Kind → ℕ → ℕ → ℕ → List Kind

@@ -12,9 +12,9 @@ use Rattle.rules.specs.Round.{made, offers}
 use Rattle.rules.specs.Run.{fresh, grown}
 use Rattle.rules.specs.Call.{padded}
 use Rattle.links.specs.Marks.{Tells}
-use Rattle.purge.specs.State.{epsilonOf}
+use Rattle.state.specs.State.{epsilonOf}
 use Rattle.purge.specs.Holds.{Holds}
-use Rattle.purge.specs.declared.Held.{Held}
+use Rattle.state.specs.declared.Held.{Held}
 use Rattle.rounds.specs.declared.Turn.{Turn}
 
 -- Memory holds a run, and the weights are those of its characters; each weighs something.

@@ -8,15 +8,15 @@ ghost use lib.ListN.{length, take};
 ghost use Rattle.memory.specs.Placed.{placed};
 ghost use Rattle.distances.specs.Area.{Weighed};
 ghost use Rattle.retire.specs.Left.{rowsFrom};
-ghost use Rattle.purge.specs.State.{epsilonOf};
+ghost use Rattle.state.specs.State.{epsilonOf};
 ghost use Rattle.rounds.specs.Grown.{kindsWith, Grew};
 ghost use Rattle.rounds.specs.Rounded.{Rounded};
 use candidates::fresh;
 use distances::measure;
 use memory::copy;
-use purge::Held;
 use rules::Kind;
 use rules::Origin;
+use state::Held;
 
 // What a round comes to: the run's state, and how many types were added; none are where there is no candidate, or no room.
 pub struct Turn {

@@ -175,7 +175,7 @@ block-is : (m : ℕ) (net : Network) → block m net ≡ head m net ++ records n
 unfolding block
 block-is m net = refl
 
-three-numbers : (o : Origin) (i : ℕ) → length (recordOf o i) ≡ 3
+pub three-numbers : (o : Origin) (i : ℕ) → length (recordOf o i) ≡ 3
 three-numbers (Sampled rows first) i = refl
 three-numbers (Inferred round) i = refl
 

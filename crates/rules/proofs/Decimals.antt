@@ -13,11 +13,11 @@ use Rattle.rules.specs.Text.{digits, decimal}
 use Rattle.rules.proofs.Job.{Within}
 
 -- A number below 10 is one digit; another has the digits of its tenth, and one more.
-short : (most n : ℕ) → n < 10 → digits (suc most) n ≡ (48 + n) ∷ []
+pub short : (most n : ℕ) → n < 10 → digits (suc most) n ≡ (48 + n) ∷ []
 unfolding digits
 short most n h = rw (lt-ltb n 10 h)
 
-longer : (most n : ℕ) → 10 ≤ n → digits (suc most) n ≡ digits most (n / 10) ++ ((48 + n % 10) ∷ [])
+pub longer : (most n : ℕ) → 10 ≤ n → digits (suc most) n ≡ digits most (n / 10) ++ ((48 + n % 10) ∷ [])
 unfolding digits
 longer most n h = rw (le-ltb n 10 h)
 

@@ -94,7 +94,7 @@ unfolding jobRow
 row-widths job k h = rw (row-at job k (rw length-rows at h)) (length-table _ _)
 
 -- A part of a list, by its elements.
-part-table : (b : Bytes) (place m : ℕ) → place + m ≤ length b → take m (drop place b) ≡ table m (λ c. getD b (place + c) 0)
+pub part-table : (b : Bytes) (place m : ℕ) → place + m ≤ length b → take m (drop place b) ≡ table m (λ c. getD b (place + c) 0)
 part-table b place m h =
     let e : length (take m (drop place b)) ≡ m = length-take-le m (drop place b) (simp length-drop (omega arith)) in
     ext-getD 0 _ _ (e ∙ sym (length-table m _))

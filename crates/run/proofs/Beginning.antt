@@ -24,15 +24,15 @@ use Rattle.rules.proofs.Ends.{phase-one}
 use Rattle.memory.specs.Placed.{placed}
 use Rattle.memory.proofs.Placed.{placed-padded, length-placed}
 use Rattle.types.specs.State.{laid, kindsOf, nodesIn}
-use Rattle.types.specs.Collapse.{entered, Collapsed}
-use Rattle.types.specs.declared.Sample.{Sample}
+use Rattle.sample.specs.Collapse.{entered, Collapsed}
+use Rattle.sample.specs.declared.Sample.{Sample}
 use Rattle.types.proofs.State.{OfWidth, length-laid, length-kinds, length-stored, stored-state}
-use Rattle.types.proofs.Collapsed.{entered-all}
+use Rattle.sample.proofs.Collapsed.{entered-all}
 use Rattle.distances.specs.Area.{Weighed, Written, New, storedApart}
 use Rattle.distances.proofs.Measured.{behind-zero}
-use Rattle.purge.specs.State.{epsilonOf}
-use Rattle.purge.specs.declared.Held.{Held}
-use Rattle.purge.specs.declared.Phase.the-variants.{One}
+use Rattle.state.specs.State.{epsilonOf}
+use Rattle.state.specs.declared.Held.{Held}
+use Rattle.state.specs.declared.Phase.the-variants.{One}
 use Rattle.purge.proofs.First.{holds-first}
 use Rattle.rounds.specs.Rounded.{Carries}
 use Rattle.run.specs.Phases.{Safe, PhasesOver}

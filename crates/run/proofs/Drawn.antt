@@ -21,7 +21,7 @@ use Rattle.rules.specs.declared.Link.{Link}
 use Rattle.distances.specs.Area.{cellAt, Measures}
 use Rattle.links.specs.Marks.{marked, Tells}
 use Rattle.purge.specs.Holds.{Holds}
-use Rattle.purge.specs.declared.Held.{Held}
+use Rattle.state.specs.declared.Held.{Held}
 use Rattle.purge.proofs.Back.{current-back}
 use Rattle.purge.proofs.Told.{rows-count}
 use Rattle.run.specs.Network.{linksIn, networkIn}

@@ -11,9 +11,9 @@ use Rattle.rules.specs.Run.{Outcome, settled, full}
 use Rattle.rules.specs.declared.Answer.the-variants.{Done, Room}
 use Rattle.rules.proofs.Keeps.{made-count}
 use Rattle.rules.proofs.Ends.{phase-same}
-use Rattle.purge.specs.State.{secondPhase}
+use Rattle.state.specs.State.{secondPhase}
 use Rattle.purge.specs.Holds.{Holds, Purged}
-use Rattle.purge.specs.declared.Held.{Held}
+use Rattle.state.specs.declared.Held.{Held}
 use Rattle.rounds.specs.declared.Turn.{Turn}
 use Rattle.run.specs.Phases.{PhaseOneOver, Kept, PhasesOver}
 use Rattle.run.specs.Network.{refusedWith}

@@ -20,7 +20,7 @@ use Rattle.run.specs.declared.Ended.{Ended}
 use Rattle.run.proofs.Ending.{kept-few, types-few}
 
 -- Where neither TYPES nor ROOM is given, Phase I settled in a run.
-settles : (job : Bytes) → number (runAnswer job) ≡ 0 → (end : Run) × (outcome job ≡ settled end)
+pub settles : (job : Bytes) → number (runAnswer job) ≡ 0 → (end : Run) × (outcome job ≡ settled end)
 settles job = go (tooMany (jobRows job)) refl (outcome job) refl
   where
     go : (t : Bool) → tooMany (jobRows job) ≡ t → (o : Outcome) → outcome job ≡ o → number (runAnswer job) ≡ 0 → (end : Run) × (outcome job ≡ settled end)

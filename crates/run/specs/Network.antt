@@ -12,8 +12,8 @@ use Rattle.rules.specs.declared.Link.{Link}
 use Rattle.types.specs.State.{blank, nodesIn}
 use Rattle.distances.specs.Area.{cellAt}
 use Rattle.links.specs.Marks.{marked}
-use Rattle.purge.specs.declared.Held.{Held}
-use Rattle.purge.specs.declared.Phase.the-variants.{Two}
+use Rattle.state.specs.declared.Held.{Held}
+use Rattle.state.specs.declared.Phase.the-variants.{Two}
 use Rattle.run.specs.declared.Ended.{Ended}
 
 -- The links of n types: those marked, with the distances in the area.

@@ -12,10 +12,10 @@ use Rattle.rules.specs.Run.{settled, full, PhaseOne}
 use Rattle.rules.specs.declared.Answer.the-variants.{Done, Room}
 use Rattle.distances.specs.Area.{Weighed}
 use Rattle.links.specs.Marks.{Tells}
-use Rattle.purge.specs.State.{epsilonOf}
+use Rattle.state.specs.State.{epsilonOf}
 use Rattle.purge.specs.Holds.{Holds}
-use Rattle.purge.specs.declared.Held.{Held}
-use Rattle.purge.specs.declared.Phase.the-variants.{Two}
+use Rattle.state.specs.declared.Held.{Held}
+use Rattle.state.specs.declared.Phase.the-variants.{Two}
 use Rattle.rounds.specs.Rounded.{Carries, Grows, Crowded}
 use Rattle.rounds.specs.declared.Turn.{Turn}
 use Rattle.run.specs.Network.{refusedWith}

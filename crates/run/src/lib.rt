@@ -12,12 +12,12 @@ ghost use Rattle.run.specs.Ran.{Ran};
 use distances::measure;
 use memory::clear_bytes;
 use memory::clear_words;
-use purge::Held;
-use purge::Phase;
-use purge::State;
 use rounds::Turn;
 use rounds::round;
 use rules::Answer;
+use state::Held;
+use state::Phase;
+use state::State;
 use types::no_kinds;
 
 // How a run ends: refused for want of room (or of types), or with the state of its last purge.
@@ -102,7 +102,7 @@ pub fn run(job: &[u8], states: &mut [u8], area: &mut [u16]) -> Ended
     clear_bytes(states);
     clear_words(area);
     let header = job::header_of(job);
-    let sample = types::collapse(job, states, header.rows, header.width);
+    let sample = sample::collapse(job, states, header.rows, header.width);
     let answer = sample.answer;
     if let Answer::Types { place: _ } = answer {
         clear_bytes(states);

@@ -1,4 +1,1 @@
 pub mod State
-pub mod Prefix
-pub mod Entering
-pub mod Collapsed

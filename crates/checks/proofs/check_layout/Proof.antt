@@ -1,7 +1,7 @@
 -- `checks::check_layout` meets its contract: it tries what is left behind WIDTH.
 use native.Mathlib.Omega.{arith}
 use borrow.Author.Tests.{ne-eqb}
-use Rattle.checks.proofs.Checks.{agree, differ, sized, few-states}
+use Rattle.contents.proofs.Stages.{agree, differ, sized, few-states}
 use Rattle.checks.proofs.check_layout.Statement.{statement}
 use Rattle.checks.proofs.check_layout.Tie as tie
 

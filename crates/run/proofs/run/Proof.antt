@@ -12,7 +12,7 @@ use Rattle.rules.specs.Job.{width, epsilon, weights, jobRows}
 use Rattle.rules.specs.Types.{tooMany, row129}
 use Rattle.rules.specs.Run.{start}
 use Rattle.rules.proofs.Job.{passed-is}
-use Rattle.types.specs.Collapse.{Collapsed}
+use Rattle.sample.specs.Collapse.{Collapsed}
 use Rattle.distances.specs.Area.{Written, New, storedApart}
 use Rattle.rounds.specs.Rounded.{Carries}
 use Rattle.run.specs.Phases.{Safe}

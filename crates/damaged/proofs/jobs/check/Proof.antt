@@ -18,7 +18,7 @@ tell-requires c κs = search needs
 returns : tie.Need-returns
 returns c =
     let e = c .before .check .ensures in
-    (c .tell .ensures .0 ∙ ap number e, c .tell .ensures .1 ∙ ap place e)
+    (c .tell .ensures .number-is ∙ ap number e, c .tell .ensures .place-is ∙ ap place e)
 
 pub check-spec : {M : Type 1} → statement M
 check-spec = tie.close (tie.spec slice-aggregate-check check-requires tell-requires returns)

@@ -1,0 +1,48 @@
+-- `cases::leftovers::zero_words` is safe and ends: every number is read once.
+use mathlib.Core.Path.{_≡_}
+use Prim.Native.Nat.{_-_}
+use native.Mathlib.Omega.{arith}
+use lib.ListN.{length}
+use Rattle.cases.proofs.leftovers.zero_words.Statement.{statement}
+use Rattle.cases.proofs.leftovers.zero_words.Tie as tie
+
+abbrev Inv-loop : tie.InvT-loop
+Inv-loop w zero₀ i₀ i-end zero i = i-end ≡ length w
+
+abbrev μ-loop : tie.MeasureT-loop
+μ-loop w zero₀ i₀ i-end zero i = i-end - i
+
+loop-holds : tie.Need-loop-holds Inv-loop μ-loop
+loop-holds c = omega arith
+
+mul-if1 : tie.Need-mul-if1 Inv-loop μ-loop
+mul-if1 c = omega arith
+
+shared-slice-read-if1 : tie.Need-shared-slice-read-if1 Inv-loop μ-loop
+shared-slice-read-if1 c = omega arith
+
+add-i : tie.Need-add-i Inv-loop μ-loop
+add-i c = omega arith
+
+loop-less : tie.Need-loop-less Inv-loop μ-loop
+loop-less c = omega arith
+
+loop-again : tie.Need-loop-again Inv-loop μ-loop
+loop-again c = omega arith
+
+returns : tie.Need-returns Inv-loop μ-loop
+returns c = omega arith
+
+pub zero-words-spec : {M : Type 1} → statement M
+zero-words-spec =
+    tie.close
+    (tie.spec
+    Inv-loop
+    μ-loop
+    loop-holds
+    mul-if1
+    shared-slice-read-if1
+    add-i
+    loop-less
+    loop-again
+    returns)

@@ -1,0 +1,4 @@
+pub mod Lent
+pub mod Found
+pub mod ReadBack
+pub mod Result

@@ -1,0 +1,2 @@
+pub mod Legible
+pub mod Whence

@@ -1,0 +1,54 @@
+-- What is written in pieces is written as one: piece behind piece, with room for each, and last a piece in front.
+use mathlib.Core.Path.{_≡_, refl, sym, ap, _∙_}
+use mathlib.Core.List.{List, [], _++_, append-assoc}
+use Prim.Native.Nat.{ℕ, _+_, _-_, _≤_, _<_}
+use native.Mathlib.Nat.{add-assoc}
+use native.Mathlib.Omega.{arith}
+use lib.ListN.{length, take, drop, length-append}
+use lib.Seq.{length-take-le, drop-at}
+use Rattle.graph.specs.Below.{gather}
+use Rattle.graph.proofs.Below.{gather-more, gather-add}
+use Rattle.memory.specs.Placed.{placed, Follows}
+use Rattle.memory.proofs.Placed.{placed-none, take-placed, placed-twice, length-placed}
+
+module _ {A : Type 0} where
+  -- Placed in front of what was placed, both are placed as one.
+  pub placed-before : (b ys : List A) (k : ℕ) → k ≤ length b → (at : ℕ) (xs : List A) → at + length xs ≡ k → placed (placed b k ys) at xs ≡ placed b at (xs ++ ys)
+  unfolding placed
+  placed-before b ys k h at xs e =
+      let rest = drop (k + length ys) b in
+      let behind : drop (at + length xs) (placed b k ys) ≡ ys ++ rest =
+      rw (e, append-assoc) (drop-at (take k b) (ys ++ rest) k (length-take-le k b h)) in
+      rw (take-placed b ys k h at (omega arith), behind, length-append, ← add-assoc, e) (simp append-assoc)
+
+  pub follows-none : (b : List A) (at : ℕ) → Follows b at [] b at
+  follows-none b at = record { is = placed-none b at; behind = omega arith }
+
+  pub follows-once : {b xs b′ : List A} {at : ℕ} → b′ ≡ placed b at xs → Follows b at xs b′ (at + length xs)
+  follows-once e = record { is = e; behind = refl }
+
+  -- Two pieces, one behind the other; room for both is room for the second behind the first.
+  module _ {b xs b₁ : List A} {at p : ℕ} (f : Follows b at xs b₁ p) where
+    pub room-next : (ys : List A) → at + length (xs ++ ys) ≤ length b → p + length ys ≤ length b₁
+    room-next ys h =
+        let n = length-append xs ys in rw (f .is, f .behind, length-placed b xs at (omega arith)) (omega arith)
+
+    pub follows-on : {ys b₂ : List A} {r : ℕ} → at ≤ length b → Follows b₁ p ys b₂ r → Follows b at (xs ++ ys) b₂ r
+    follows-on {ys} h g = record {
+      is = g .is ∙ rw (f .is) (placed-twice b xs at h p ys (sym (f .behind)));
+      behind = rw length-append (omega (arith, f .behind, g .behind));
+    }
+
+  -- Many pieces: some of them take no more than all; one more, and the room for it.
+  pub pieces-within : (f : ℕ → List A) (t n : ℕ) → n ≤ t → length (gather n f) ≤ length (gather t f)
+  pieces-within f t n h =
+      let e : n + (t - n) ≡ t = omega arith in
+      omega (arith, simp length-append at (ap length (sym (gather-add n (t - n) f) ∙ ap (λ (k : ℕ). gather k f) e)))
+
+  module _ (f : ℕ → List A) {b b′ : List A} {at k : ℕ} (n : ℕ) (w : Follows b at (gather n f) b′ k) where
+    pub follows-more : {b″ : List A} {r : ℕ} → at ≤ length b → Follows b′ k (f n) b″ r → Follows b at (gather (n + 1) f) b″ r
+    follows-more h g = rw gather-more (follows-on w h g)
+
+    pub follows-room : (t : ℕ) → n < t → at + length (gather t f) ≤ length b → k + length (f n) ≤ length b
+    follows-room t h room =
+        omega (arith, w .behind, pieces-within f t (n + 1) (omega arith), simp length-append at (ap length (gather-more n f)))

@@ -1,0 +1,4 @@
+pub mod Verdicts
+pub mod Ready
+pub mod Steps
+pub mod Left

@@ -1,0 +1,55 @@
+-- The public call: what it answers and what it leaves in everything lent, for every input.
+use mathlib.Core.Path.{_≡_}
+use mathlib.Core.Bool.{false}
+use mathlib.Core.List.{List}
+use Prim.Native.Nat.{ℕ, _+_, _*_, _/_}
+use lib.ListN.{length, getD, replicate}
+use Rattle.graph.specs.Below.{table}
+use Rattle.rules.specs.Answers.{when_refuse_else_, passed}
+use Rattle.rules.specs.Job.{Bytes, width}
+use Rattle.rules.specs.Lent.{Lent, areaShort}
+use Rattle.rules.specs.Call.{verdict, written, answer, Served}
+use Rattle.rules.specs.declared.Answer.{Answer}
+use Rattle.rules.specs.declared.Answer.the-variants.{Area}
+use Rattle.rules.specs.declared.Link.{Link}
+use Rattle.memory.specs.Placed.{placed}
+
+-- The lengths lent. The link table is lent as numbers, three to a record.
+abbrev pub lengths : ℕ → ℕ → ℕ → ℕ → Lent
+lengths result states distances links = record { result = result; states = states; distances = distances; links = links }
+
+abbrev pub lentBy : Bytes → Bytes → List ℕ → List ℕ → Lent
+lentBy result states distances links = lengths (length result) (length states) (length distances) (length links / 3)
+
+abbrev pub recordsIn : List ℕ → List Link
+recordsIn links = table (length links / 3) (λ k. record { low = getD links (3 * k) 0; high = getD links (3 * k + 1) 0; length = getD links (3 * k + 2) 0 })
+
+-- The call answers as the rules do and leaves what they leave, with the lengths lent; and no number of the link table is left.
+pub record Called (job result states : Bytes) (distances links : List ℕ) (r : Answer) (result′ states′ : Bytes) (distances′ links′ : List ℕ) : Type 0 where
+  pub served : Served (lentBy result states distances links) job r result′ states′ distances′ (recordsIn links′)
+  pub table-left : links′ ≡ replicate (length links) 0
+
+-- ── The steps of the call ──
+
+-- Check 1.
+abbrev pub areasAnswer : Lent → Answer
+areasAnswer lent = when areaShort lent refuse Area else passed
+
+-- The rules' answer is given, and what they write stands at the front of the result.
+pub record Wrote (lent : Lent) (job result : Bytes) (r : Answer) (result′ : Bytes) : Type 0 where
+  pub answered : r ≡ answer lent job
+  pub result-is : result′ ≡ placed result 0 (written (width job) (verdict lent job))
+
+-- The work areas keep their lengths.
+pub record SameLengths (states : Bytes) (distances : List ℕ) (states′ : Bytes) (distances′ : List ℕ) : Type 0 where
+  pub states-size : length states′ ≡ length states
+  pub distances-size : length distances′ ≡ length distances
+
+-- Of a job that passed checks 2 to 7, whatever lengths are lent that check 1 lets pass.
+pub record Drawn (job result states : Bytes) (distances : List ℕ) (r : Answer) (result′ states′ : Bytes) (distances′ : List ℕ) : Type 0 where
+  pub sizes : SameLengths states distances states′ distances′
+  pub wrote : (lent : Lent) → areaShort lent ≡ false → Wrote lent job result r result′
+
+pub record Answered (job result states : Bytes) (distances : List ℕ) (links : ℕ) (r : Answer) (result′ states′ : Bytes) (distances′ : List ℕ) : Type 0 where
+  pub sizes : SameLengths states distances states′ distances′
+  pub wrote : Wrote (lengths (length result) (length states) (length distances) links) job result r result′

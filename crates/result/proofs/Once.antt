@@ -1,0 +1,12 @@
+-- The contract of `write` leaves no choice.
+use mathlib.Core.Path.{_≡_, sym, _∙_}
+use mathlib.Core.List.{List}
+use Prim.Native.Nat.{ℕ}
+use Rattle.rules.specs.Job.{Bytes}
+use Rattle.state.specs.declared.Held.{Held}
+use Rattle.result.specs.Written.{Written}
+
+-- Two that write one network from memory over the same bytes leave the same, and hand back the same length.
+pub written-one : {m : ℕ} {states : Bytes} {area : List ℕ} {held : Held} {out a b : Bytes} {r s : ℕ} →
+    Written m states area held out a r → Written m states area held out b s → (a ≡ b) × (r ≡ s)
+written-one p q = (p .is ∙ sym (q .is), p .used ∙ sym (q .used))

@@ -1,0 +1,23 @@
+-- A job is served and printed: the call's own promise, and the text that document 01 prints.
+use mathlib.Core.Path.{_≡_}
+use mathlib.Core.Bool.{cond}
+use mathlib.Core.List.{List}
+use Prim.Native.Nat.{ℕ}
+use lib.Dec.{ltb}
+use lib.ListN.{length}
+use Rattle.rules.specs.Job.{Bytes}
+use Rattle.rules.specs.Call.{answer, padded}
+use Rattle.rules.specs.Text.{printed}
+use Rattle.text.specs.Printed.{textRoom, printedBytes}
+use Rattle.text.specs.declared.Printed.{Printed}
+use Rattle.text.specs.declared.Printed.the-variants.{Done, Room}
+use Rattle.network.specs.Called.{lentBy, Called}
+
+-- A text in memory of some length: there is room for every text, or nothing is written.
+abbrev pub printedIn : ℕ → Bytes → Printed
+printedIn lent xs = cond (ltb lent textRoom) Room (Done (length xs))
+
+pub record ServedText (job result states : Bytes) (distances links : List ℕ) (out : Bytes) (r : Printed) (result′ states′ : Bytes) (distances′ links′ : List ℕ) (out′ : Bytes) : Type 0 where
+  pub called : Called job result states distances links (answer (lentBy result states distances links) job) result′ states′ distances′ links′
+  pub answered : r ≡ printedIn (length out) (printed (lentBy result states distances links) job)
+  pub left : out′ ≡ padded (length out) (printedBytes r (printed (lentBy result states distances links) job))

@@ -1,0 +1,4 @@
+pub mod Network
+pub mod Room
+pub mod Left
+pub mod Once

@@ -1,0 +1,96 @@
+-- Every text has at most 172,718 bytes: a line of the network 46, a line of a type 79, a line of a link 20.
+use mathlib.Core.Bool.{Bool, true, false, cond}
+use Prim.Native.Nat.{ℕ, _+_, _*_, _^_, _≤_, _<_}
+use native.Mathlib.Nat.{min-le-left}
+use native.Mathlib.Omega.{arith}
+use lib.Dec.{ltb}
+use lib.ListN.{length, getD, length-append, length-take}
+use Rattle.graph.specs.Below.{gather}
+use Rattle.graph.proofs.Below.{length-gather, sum-bound}
+use Rattle.rules.specs.Job.{Bytes, word, width}
+use Rattle.rules.specs.Lookup.{Part, inJob, inResult, nowhere, partOf, statesOf, lookup}
+use Rattle.rules.specs.Text.{text, originText, typeLine, linkLine}
+use Rattle.rules.specs.declared.Origin.the-variants.{Sampled, Inferred}
+use Rattle.lines.proofs.Decimal.{length-decimal}
+use Rattle.found.specs.ReadBack.{recordAt, readLink}
+use Rattle.listing.specs.Lines.{headOf, typeOf, typesOf, linksOf, networkOf}
+use Rattle.text.specs.Printed.{refusalOf}
+use Rattle.listing.proofs.Legible.{Read}
+
+-- The row lookup hands back at most a row's states.
+states-most : (job block : Bytes) (k : ℕ) → length (lookup job block k) ≤ width job
+unfolding lookup
+states-most job block k = go (partOf job block k)
+  where
+    go : (p : Part) → length (statesOf job block p) ≤ width job
+    go (inJob at) = rw length-take (min-le-left _ _)
+    go (inResult at) = rw length-take (min-le-left _ _)
+    go nowhere = omega arith
+
+pub refusal-most : (number place : ℕ) → number < 2 ^ 64 → place < 2 ^ 64 → length (refusalOf number place) ≤ 50
+unfolding text
+refusal-most number place h g =
+    simp length-append (omega (arith, length-decimal 19 number (omega arith), length-decimal 19 place (omega arith)))
+
+origin-most : (t : Bool) (x y z : ℕ) → x ≤ 65535 → z ≤ 65535 → length (originText (cond t (Sampled x y) (Inferred z))) ≤ 8
+unfolding text
+origin-most true x y z h g = omega (arith, length-decimal 4 x (omega arith))
+origin-most false x y z h g = omega (arith, length-decimal 4 z (omega arith))
+
+-- Gathered lines of at most so many bytes.
+gather-most : (n most : ℕ) (f : ℕ → Bytes) → ((k : ℕ) → k < n → length (f k) ≤ most) → length (gather n f) ≤ n * most
+gather-most n most f h = rw length-gather (sum-bound n most _ h)
+
+module _ {job block : Bytes} (r : Read job block) (bytes : (i : ℕ) → getD block i 0 < 256) where
+  word-most : (i : ℕ) → word block i ≤ 65535
+  word-most i = omega (arith, bytes i, bytes (i + 1))
+
+  head-most : length (headOf block) ≤ 46
+  unfolding headOf text
+  head-most =
+      simp length-append
+      (omega (
+        arith,
+        length-decimal 2 (word block 0) (omega (arith, r .types-most)),
+        length-decimal 2 (word block 2) (omega (arith, r .types-most, r .sampled-most)),
+        length-decimal 3 (word block 6) (omega (arith, r .links-most)),
+        length-decimal 4 (word block 8) (omega (arith, word-most 8)),
+      ))
+
+  type-most : (k : ℕ) → k < word block 0 → length (typeOf job block k) ≤ 79
+  unfolding typeLine text
+  type-most k h =
+      let at = recordAt block k in
+      simp length-append
+      (omega (
+        arith,
+        r .width-most,
+        states-most job block k,
+        length-decimal 2 k (omega (arith, r .types-most)),
+        origin-most (ltb k (word block 2)) (word block at) (word block (at + 2)) (word block (at + 4)) (word-most at) (word-most (at + 4)),
+      ))
+
+  link-most : (k : ℕ) → k < word block 6 → length (linkLine (readLink block k)) ≤ 20
+  unfolding linkLine text
+  link-most k h =
+      let at = word block 14 + 6 * k in
+      simp length-append
+      (omega (
+        arith,
+        length-decimal 4 (word block at) (omega (arith, word-most at)),
+        length-decimal 4 (word block (at + 2)) (omega (arith, word-most (at + 2))),
+        length-decimal 4 (word block (at + 4)) (omega (arith, word-most (at + 4))),
+      ))
+
+  pub network-most : length (networkOf job block) ≤ 172718
+  unfolding typesOf linksOf
+  network-most =
+      simp length-append
+      (omega (
+        arith,
+        r .types-most,
+        r .links-most,
+        head-most,
+        gather-most (word block 0) 79 (typeOf job block) type-most,
+        gather-most (word block 6) 20 (λ k. linkLine (readLink block k)) link-most,
+      ))

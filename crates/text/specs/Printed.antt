@@ -1,0 +1,50 @@
+-- What the text of an answer is, and what is left in the memory lent for it.
+use mathlib.Core.Path.{_≡_}
+use mathlib.Core.Bool.{cond, not, _&&_}
+use mathlib.Core.List.{[], _++_}
+use Prim.Native.Nat.{ℕ}
+use lib.Dec.{ltb, eqb}
+use lib.ListN.{length}
+use Rattle.rules.specs.Answers.{number}
+use Rattle.rules.specs.Job.{Bytes}
+use Rattle.rules.specs.Call.{refused, padded}
+use Rattle.rules.specs.Text.{text, say, networkText, verdictText}
+use Rattle.rules.specs.declared.Answer.{Answer}
+use Rattle.found.specs.ReadBack.{readBack}
+use Rattle.listing.specs.Lines.{legible}
+use Rattle.text.specs.declared.Printed.{Printed}
+use Rattle.text.specs.declared.Printed.the-variants.{Done, Room, Block}
+
+-- The numbers of these answers; the place is 0.
+abbrev pub printedNumber : Printed → ℕ
+printedNumber (Done used) = 0
+printedNumber Room = 80
+printedNumber Block = 81
+
+-- At least so many bytes are to be lent for a text: the longest that any result block can give.
+abbrev pub textRoom : ℕ
+textRoom = 172718
+
+-- The network read back from job and result block, or the line of the refusal.
+abbrev pub textOf : Bytes → Bytes → Answer → Bytes
+textOf job block answer = cond (eqb (number answer) 0) (networkText (readBack job block)) (verdictText (refused answer))
+
+-- A refusal is one line.
+abbrev pub refusalOf : ℕ → ℕ → Bytes
+refusalOf number place = say "refused " number ++ say " " place ++ text "\n"
+
+-- 80 where the memory lent is shorter; then 81 where a network is to be printed and the block is not one of this job.
+unfoldable pub printedAs : ℕ → Bytes → Bytes → Answer → Printed
+printedAs lent job block answer =
+    let done = Done (length (textOf job block answer)) in
+    cond (ltb lent textRoom) Room (cond (eqb (number answer) 0 && not (legible job block)) Block done)
+
+-- Nothing is half written.
+abbrev pub printedBytes : Printed → Bytes → Bytes
+printedBytes (Done used) xs = xs
+printedBytes Room xs = []
+printedBytes Block xs = []
+
+pub record TextLeft (job block : Bytes) (answer : Answer) (lent : ℕ) (out : Bytes) (r : Printed) : Type 0 where
+  pub answered : r ≡ printedAs lent job block answer
+  pub left : out ≡ padded lent (printedBytes (printedAs lent job block answer) (textOf job block answer))

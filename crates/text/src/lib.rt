@@ -1,0 +1,77 @@
+// The room of the printed text: the lines of a network or of a refusal, built from a job, its result block and its answer into memory
+// that is lent. Job and block are only read.
+
+ghost use mathlib.Core.Path.{_≡_};
+ghost use Prim.Native.Nat.{_≤_};
+ghost use lib.ListN.{length};
+ghost use Rattle.memory.specs.Placed.{Follows};
+ghost use Rattle.listing.specs.Lines.{Legible, legible, networkOf};
+ghost use Rattle.text.specs.Printed.{TextLeft, refusalOf};
+use answers::tell;
+use lines::put;
+use lines::say;
+use listing::put_head;
+use listing::put_links;
+use listing::put_types;
+use lookup::block_matches;
+use memory::clear_bytes;
+use memory::word_at;
+use rules::Answer;
+
+// How a text ends: with so many bytes; without room for every text that there can be; or without a result block of this job to print.
+pub enum Printed {
+    Done { used: usize },
+    Room,
+    Block,
+}
+
+// Whether the block is one that can be read back with this job, of at most 8,128 links.
+fn is_legible(job: &[u8], block: &[u8]) -> bool
+    ensures { λ r. ⌜ r ≡ legible (now (job .entry)) (now (block .entry)) ⌝ }
+{
+    if !block_matches(job, block) {
+        return false;
+    }
+    let l = word_at(block, 6);
+    l <= 8128 && word_at(block, 14) + 6 * l <= block.len()
+}
+
+// A refusal is one line.
+fn put_refusal(number: usize, place: usize, out: &mut [u8]) -> usize
+    requires { ⌜ 172718 ≤ length (now out) ⌝ }
+    ensures { λ r. ⌜ Follows (now (out .entry)) 0 (refusalOf number place) (now (out .exit)) r ⌝ }
+{
+    let at = say(out, 0, b"refused ", number);
+    let at = say(out, at, b" ", place);
+    put(out, at, b"\n")
+}
+
+fn put_network<'a>(job: &'a [u8], block: &'a [u8], out: &mut [u8]) -> usize
+    requires { ⌜ Legible (now job) (now block) × (172718 ≤ length (now out)) ⌝ }
+    ensures { λ r. ⌜ Follows (now (out .entry)) 0 (networkOf (now (job .entry)) (now (block .entry))) (now (out .exit)) r ⌝ }
+{
+    let at = put_head(block, out, 0);
+    let at = put_types(job, block, out, at);
+    put_links(block, out, at)
+}
+
+// The text of an answer: the network in the result block, read with its job, or the refusal. Zeros follow it to the end; without a text
+// there are zeros throughout.
+pub fn text<'a>(job: &'a [u8], block: &'a [u8], answer: Answer, out: &mut [u8]) -> Printed
+    ensures { λ r. ⌜ TextLeft (now (job .entry)) (now (block .entry)) answer (length (now (out .entry))) (now (out .exit)) r ⌝ }
+{
+    clear_bytes(out);
+    if out.len() < 172718 {
+        return Printed::Room;
+    }
+    let told = tell(answer);
+    if told.number != 0 {
+        let used = put_refusal(told.number, told.place, out);
+        return Printed::Done { used };
+    }
+    if !is_legible(job, block) {
+        return Printed::Block;
+    }
+    let used = put_network(job, block, out);
+    Printed::Done { used }
+}
