@@ -13,7 +13,7 @@ pub(crate) fn fill_words(w: &mut [u16], x: u16) {
 }
 
 // No byte from a place on is left.
-pub(crate) fn zero_bytes(b: &[u8], from: usize) -> bool {
+fn zero_bytes(b: &[u8], from: usize) -> bool {
     let mut zero = true;
     for i in from..b.len() {
         if b[i] != 0 {
@@ -23,7 +23,7 @@ pub(crate) fn zero_bytes(b: &[u8], from: usize) -> bool {
     zero
 }
 
-pub(crate) fn zero_words(w: &[u16]) -> bool {
+fn zero_words(w: &[u16]) -> bool {
     let mut zero = true;
     for i in 0..w.len() {
         if w[i] != 0 {
@@ -31,4 +31,23 @@ pub(crate) fn zero_words(w: &[u16]) -> bool {
         }
     }
     zero
+}
+
+// Whether the work memory is zero, and the result behind the bytes used.
+pub(crate) fn print_zero(
+    result: &[u8],
+    used: usize,
+    states: &[u8],
+    distances: &[u16],
+    links: &[u16],
+) {
+    if zero_bytes(result, used)
+        && zero_bytes(states, 0)
+        && zero_words(distances)
+        && zero_words(links)
+    {
+        io::write_all(libc::STDOUT_FILENO, b"work memory and unused result zero\n");
+    } else {
+        io::write_all(libc::STDOUT_FILENO, b"something is left in the memory\n");
+    }
 }

@@ -4,14 +4,13 @@
 mod build;
 mod leftovers;
 
-use crate::build::put_all;
+ghost use Prim.Native.Nat.{_+_, _*_, _≤_};
+use crate::build::put;
 use crate::build::put_grid;
 use crate::build::put_head;
-use crate::build::put_same;
 use crate::leftovers::fill_bytes;
 use crate::leftovers::fill_words;
-use crate::leftovers::zero_bytes;
-use crate::leftovers::zero_words;
+use crate::leftovers::print_zero;
 use answers::tell;
 use network::call;
 use rules::Answer;
@@ -31,150 +30,107 @@ fn print_lines(text: &[u8], lines: usize) {
     }
 }
 
-// Leftovers throughout the memory.
-fn fill(
-    leftover: u8,
-    result: &mut [u8],
-    states: &mut [u8],
-    distances: &mut [u16],
-    links: &mut [u16],
-    out: &mut [u8],
-) {
-    fill_bytes(result, leftover);
-    fill_bytes(states, leftover);
-    fill_words(distances, leftover as u16);
-    fill_words(links, leftover as u16);
-    fill_bytes(out, leftover);
+fn print_answer<'a>(job: &'a [u8], result: &'a [u8], answer: Answer, lines: usize) {
+    let mut out = [165u8; 172800];
+    text(job, result, answer, &mut out);
+    print_lines(&out, lines);
 }
 
-// The first lines of an answer's text, and whether anything is left in the memory.
-fn print_answer<'a>(
-    job: &'a [u8],
-    answer: Answer,
-    lines: usize,
-    result: &'a [u8],
-    states: &[u8],
-    distances: &[u16],
-    links: &[u16],
-    out: &mut [u8],
-) {
-    text(job, result, answer, out);
-    print_lines(out, lines);
-    let told = tell(answer);
-    if zero_bytes(result, told.used)
-        && zero_bytes(states, 0)
-        && zero_words(distances)
-        && zero_words(links)
-    {
-        io::write_all(libc::STDOUT_FILENO, b"work memory and unused result zero\n");
-    } else {
-        io::write_all(libc::STDOUT_FILENO, b"something is left in the memory\n");
-    }
-}
-
-// A job is answered over memory full of leftovers.
+// A job is answered over memory as it is found: the first lines of its text, and whether anything is left in the memory.
 fn answer_over(
-    leftover: u8,
     job: &[u8],
     lines: usize,
     result: &mut [u8],
     states: &mut [u8],
     distances: &mut [u16],
     links: &mut [u16],
-    out: &mut [u8],
 ) {
-    fill(leftover, result, states, distances, links, out);
     let answer = call(job, result, states, distances, links);
-    print_answer(job, answer, lines, result, states, distances, links, out);
+    print_answer(job, result, answer, lines);
+    let told = tell(answer);
+    print_zero(result, told.used, states, distances, links);
 }
 
 // The first n bytes are a job.
 fn answer_twice(name: &[u8], job: &[u8], n: usize, lines: usize) {
-    if job.len() < n {
-        return;
+    if n <= job.len() {
+        let mut result = [165u8; 57700];
+        let mut states = [165u8; 8200];
+        let mut distances = [165u16; 16400];
+        let mut links = [165u16; 24400];
+        io::write_all(libc::STDOUT_FILENO, name);
+        answer_over(
+            &job[0..n],
+            lines,
+            &mut result,
+            &mut states,
+            &mut distances,
+            &mut links,
+        );
+        fill_bytes(&mut result, 90);
+        fill_bytes(&mut states, 90);
+        fill_words(&mut distances, 90);
+        fill_words(&mut links, 90);
+        answer_over(
+            &job[0..n],
+            lines,
+            &mut result,
+            &mut states,
+            &mut distances,
+            &mut links,
+        );
     }
-    let job = &job[0..n];
-    let mut result = [0u8; 57700];
-    let mut states = [0u8; 8200];
-    let mut distances = [0u16; 16400];
-    let mut links = [0u16; 24400];
-    let mut out = [0u8; 172800];
-    io::write_all(libc::STDOUT_FILENO, name);
-    answer_over(
-        165,
-        job,
-        lines,
-        &mut result,
-        &mut states,
-        &mut distances,
-        &mut links,
-        &mut out,
-    );
-    answer_over(
-        90,
-        job,
-        lines,
-        &mut result,
-        &mut states,
-        &mut distances,
-        &mut links,
-        &mut out,
-    );
 }
 
-// R1, and R2 with a row more, a new one: 8 by 16 rows over two columns.
-fn two_columns() {
+// n rows over two columns, with b states in the second.
+fn two_columns(name: &[u8], n: usize, b: usize)
+    requires { ⌜ (n ≤ 257) × (1 ≤ b) ⌝ }
+{
     let mut job = [0u8; 16525];
-    let at = put_head(&mut job, 128, 2);
-    let n = put_grid(&mut job, at, 128, 16, b"");
-    answer_twice(b"R1\n", &job, n, 1);
-    let at = put_head(&mut job, 129, 2);
-    let n = put_grid(&mut job, at, 129, 16, b"");
-    answer_twice(b"R2\n", &job, n, 1);
+    let at = put_head(&mut job, n, 2);
+    let end = put_grid(&mut job, at, n, b, b"");
+    answer_twice(name, &job, end, 1);
 }
 
-// R3 and R4: rows over two columns with 000 behind, and at one place 110, 101 and 011 behind.
-fn three_behind() {
+// The same with 000 behind, and three rows more, at one place, with 110, 101 and 011 behind.
+fn three_behind(name: &[u8], n: usize, b: usize)
+    requires { ⌜ (n ≤ 257) × (1 ≤ b) ⌝ }
+{
     let mut job = [0u8; 16525];
-    let at = put_head(&mut job, 124, 5);
-    let at = put_grid(&mut job, at, 121, 11, b"000");
-    let n = put_all(&mut job, at, b"!!110!!101!!011");
-    answer_twice(b"R3\n", &job, n, 1);
-    let at = put_head(&mut job, 128, 5);
-    let at = put_grid(&mut job, at, 125, 25, b"000");
-    let n = put_all(&mut job, at, b"!!110!!101!!011");
-    answer_twice(b"R4\n", &job, n, 1);
+    let at = put_head(&mut job, n + 3, 5);
+    let at = put_grid(&mut job, at, n, b, b"000");
+    let end = put(&mut job, at, b"!!110!!101!!011");
+    answer_twice(name, &job, end, 1);
 }
 
-// Equal rows, and one row of equal states, at the bounds.
-fn bounds() {
+// n equal rows of m equal states.
+fn equal(name: &[u8], n: usize, m: usize, lines: usize)
+    requires { ⌜ (m ≤ 65) × (n * m ≤ 257) ⌝ }
+{
     let mut job = [0u8; 16525];
-    let at = put_head(&mut job, 256, 1);
-    let n = put_same(&mut job, at, 256, 65);
-    answer_twice(b"256 rows\n", &job, n, 2);
-    let at = put_head(&mut job, 257, 1);
-    let n = put_same(&mut job, at, 257, 65);
-    answer_twice(b"257 rows\n", &job, n, 1);
-    let at = put_head(&mut job, 1, 64);
-    let n = put_same(&mut job, at, 64, 65);
-    answer_twice(b"width 64\n", &job, n, 2);
-    let at = put_head(&mut job, 1, 65);
-    let n = put_same(&mut job, at, 65, 65);
-    answer_twice(b"width 65\n", &job, n, 1);
+    let at = put_head(&mut job, n, m);
+    let states = [65u8; 257];
+    let end = put(&mut job, at, &states[0..n * m]);
+    answer_twice(name, &job, end, lines);
 }
 
 // Document 000's first example: A, B, C, D, with its weights, at epsilon 0.
 fn first_example() {
     let mut job = [0u8; 16525];
     let at = put_head(&mut job, 4, 5);
-    put_all(&mut job, 12, &[1, 0, 3, 0, 2, 0, 1, 0, 2, 0]);
-    let n = put_all(&mut job, at, b"00000110001011001101");
-    answer_twice(b"example 1 of document 000\n", &job, n, 10);
+    put(&mut job, 12, &[1, 0, 3, 0, 2, 0, 1, 0, 2, 0]);
+    let end = put(&mut job, at, b"00000110001011001101");
+    answer_twice(b"example 1 of document 000\n", &job, end, 10);
 }
 
 fn main() {
-    two_columns();
-    three_behind();
-    bounds();
+    two_columns(b"R1\n", 128, 16);
+    two_columns(b"R2\n", 129, 16);
+    three_behind(b"R3\n", 121, 11);
+    three_behind(b"R4\n", 125, 25);
+    equal(b"256 rows\n", 256, 1, 2);
+    equal(b"257 rows\n", 257, 1, 1);
+    equal(b"width 64\n", 1, 64, 2);
+    equal(b"width 65\n", 1, 65, 1);
     first_example();
 }

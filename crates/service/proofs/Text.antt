@@ -1,11 +1,11 @@
 -- The text of what the call leaves is the text of the rules, and the block that it leaves can always be printed.
 use mathlib.Core.Path.{_≡_, refl, sym, ap, ap₂, _∙_}
 use mathlib.Core.Bool.{Bool, true, false, cond, not, _&&_}
-use mathlib.Core.List.{List}
-use Prim.Native.Nat.{ℕ, _+_, _*_, _≤_}
+use mathlib.Core.List.{List, []}
+use Prim.Native.Nat.{ℕ, _+_, _*_, _/_, _≤_}
 use native.Mathlib.Omega.{arith}
 use lib.Dec.{ltb, eqb}
-use lib.ListN.{length, length-append}
+use lib.ListN.{length, replicate, length-append, length-replicate}
 use borrow.Author.Tests.{eq-eqb, ne-eqb, le-leb}
 use Rattle.rules.specs.Answers.{number}
 use Rattle.rules.specs.Job.{Bytes, word, checked}
@@ -17,11 +17,11 @@ use Rattle.rules.specs.declared.Answer.{Answer}
 use Rattle.found.proofs.Found.{found-is, verdict-numbered}
 use Rattle.found.proofs.Result.{few-links, read-result, header-matches, links-counted, links-reach}
 use Rattle.listing.specs.Lines.{legible}
-use Rattle.text.specs.Printed.{printedNumber, textRoom, textOf, printedAs, printedBytes, TextLeft}
+use Rattle.text.specs.Printed.{printedUsed, textRoom, textOf, printedAs, printedBytes, TextLeft}
 use Rattle.text.specs.declared.Printed.{Printed}
-use Rattle.text.specs.declared.Printed.the-variants.{Done, Room, Block}
+use Rattle.text.specs.declared.Printed.the-variants.{Done, Room}
 use Rattle.network.specs.Called.{lentBy, Called}
-use Rattle.service.specs.Served.{printedIn, ServedText}
+use Rattle.service.specs.Served.{printedIn, ServedText, least, shown, TextOnly}
 
 module _ (lent : Lent) (job : Bytes) where
   pub text-is : textOf job (resultAfter lent job) (answer lent job) ≡ printed lent job
@@ -76,19 +76,38 @@ served-text {job} {result} {states} {out} {result′} {distances} {links} {r} c 
       left = t .left ∙ ap₂ (λ (q : Printed) (xs : Bytes). padded (length out) (printedBytes q xs)) (sym (t .answered)) is;
     }
 
--- A text that was written ends within the memory lent for it.
-pub text-within : {job result states out result′ states′ out′ : Bytes} {distances links distances′ links′ : List ℕ} {r : Printed} {used : ℕ} →
-    ServedText job result states distances links out r result′ states′ distances′ links′ out′ → r ≡ Done used → used ≤ length out′
-text-within {job} {result} {states} {out} {out′} {distances} {links} s e =
-    let xs = printed (lentBy result states distances links) job in
-    let all : length out′ ≡ length (padded (length out) xs) = ap length (s .left ∙ ap (λ q. padded (length out) (printedBytes q xs)) e) in
-    omega (arith, done-is (ltb (length out) textRoom) (sym e ∙ s .answered), simp length-append at all)
-  where
-    usedOf : Printed → ℕ
-    usedOf (Done m) = m
-    usedOf Room = 0
-    usedOf Block = 0
+-- Memory of the least lengths.
+pub least-lent : lentBy (replicate 57680 0) (replicate 8192 0) (replicate 16384 0) (replicate 24384 0) ≡ least
+least-lent i = record {
+  result = length-replicate {A = ℕ} 57680 0 i;
+  states = length-replicate {A = ℕ} 8192 0 i;
+  distances = length-replicate {A = ℕ} 16384 0 i;
+  links = length-replicate {A = ℕ} 24384 0 i / 3;
+}
 
-    done-is : {m k : ℕ} (t : Bool) → Done m ≡ cond t Room (Done k) → m ≡ k
-    done-is true h = absurd (let z : _≡_ {A = ℕ} 0 80 = ap printedNumber h in omega arith)
-    done-is false h = ap usedOf h
+-- The text, by its length.
+shown-used : (lent : ℕ) (xs : Bytes) → printedUsed (printedIn lent xs) ≡ length (shown lent xs)
+shown-used lent xs = go (ltb lent textRoom)
+  where
+    go : (t : Bool) → printedUsed (cond t Room (Done (length xs))) ≡ length (cond t [] xs)
+    go true = refl
+    go false = refl
+
+shown-bytes : (lent : ℕ) (xs : Bytes) → printedBytes (printedIn lent xs) xs ≡ shown lent xs
+shown-bytes lent xs = go (ltb lent textRoom)
+  where
+    go : (t : Bool) → printedBytes (cond t Room (Done (length xs))) xs ≡ cond t [] xs
+    go true = refl
+    go false = refl
+
+pub least-text : {job result states out result′ states′ out′ : Bytes} {distances links distances′ links′ : List ℕ} {r : Printed} {used : ℕ} →
+    ServedText job result states distances links out r result′ states′ distances′ links′ out′ → lentBy result states distances links ≡ least →
+    used ≡ printedUsed r → TextOnly job out used out′
+least-text {job} {out} {out′} {r} {used} s e u =
+    let xs = printed least job in
+    let text = shown (length out) xs in
+    let said : r ≡ printedIn (length out) xs = rw e at (s .answered) in
+    let written : out′ ≡ padded (length out) (printedBytes r xs) = rw e at (s .left) in
+    let is : used ≡ length text = u ∙ ap printedUsed said ∙ shown-used (length out) xs in
+    let all : out′ ≡ padded (length out) text = written ∙ ap (padded (length out)) (ap (λ q. printedBytes q xs) said ∙ shown-bytes (length out) xs) in
+    record { used-is = is; left = all; within = rw all (simp length-append (omega (arith, is))) }

@@ -1,17 +1,18 @@
 -- A job is served and printed: the call's own promise, and the text that document 01 prints.
 use mathlib.Core.Path.{_≡_}
 use mathlib.Core.Bool.{cond}
-use mathlib.Core.List.{List}
-use Prim.Native.Nat.{ℕ}
+use mathlib.Core.List.{List, []}
+use Prim.Native.Nat.{ℕ, _≤_}
 use lib.Dec.{ltb}
 use lib.ListN.{length}
 use Rattle.rules.specs.Job.{Bytes}
+use Rattle.rules.specs.Lent.{Lent}
 use Rattle.rules.specs.Call.{answer, padded}
 use Rattle.rules.specs.Text.{printed}
 use Rattle.text.specs.Printed.{textRoom, printedBytes}
 use Rattle.text.specs.declared.Printed.{Printed}
 use Rattle.text.specs.declared.Printed.the-variants.{Done, Room}
-use Rattle.network.specs.Called.{lentBy, Called}
+use Rattle.network.specs.Called.{lengths, lentBy, Called}
 
 -- A text in memory of some length: there is room for every text, or nothing is written.
 abbrev pub printedIn : ℕ → Bytes → Printed
@@ -21,3 +22,16 @@ pub record ServedText (job result states : Bytes) (distances links : List ℕ) (
   pub called : Called job result states distances links (answer (lentBy result states distances links) job) result′ states′ distances′ links′
   pub answered : r ≡ printedIn (length out) (printed (lentBy result states distances links) job)
   pub left : out′ ≡ padded (length out) (printedBytes r (printed (lentBy result states distances links) job))
+
+-- The text alone, of a call with the least memory that may be lent: nothing where there is no room for every text.
+abbrev pub least : Lent
+least = lengths 57680 8192 16384 8128
+
+abbrev pub shown : ℕ → Bytes → Bytes
+shown lent xs = cond (ltb lent textRoom) [] xs
+
+pub record TextOnly (job out : Bytes) (r : ℕ) (out′ : Bytes) : Type 0 where
+  pub used-is : r ≡ length (shown (length out) (printed least job))
+  pub left : out′ ≡ padded (length out) (shown (length out) (printed least job))
+  -- this follows, and is said so that a caller may take the text as a part
+  pub within : r ≤ length out′

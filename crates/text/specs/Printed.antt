@@ -12,14 +12,25 @@ use Rattle.rules.specs.Text.{text, say, networkText, verdictText}
 use Rattle.rules.specs.declared.Answer.{Answer}
 use Rattle.found.specs.ReadBack.{readBack}
 use Rattle.listing.specs.Lines.{legible}
+use Rattle.answers.specs.declared.Told.{Told}
 use Rattle.text.specs.declared.Printed.{Printed}
 use Rattle.text.specs.declared.Printed.the-variants.{Done, Room, Block}
 
--- The numbers of these answers; the place is 0.
+-- The numbers of these answers, and the bytes used; the place is 0.
 abbrev pub printedNumber : Printed → ℕ
 printedNumber (Done used) = 0
 printedNumber Room = 80
 printedNumber Block = 81
+
+abbrev pub printedUsed : Printed → ℕ
+printedUsed (Done used) = used
+printedUsed Room = 0
+printedUsed Block = 0
+
+pub record ToldText (printed : Printed) (r : Told) : Type 0 where
+  pub number-is : r .number ≡ printedNumber printed
+  pub place-is : r .place ≡ 0
+  pub used-is : r .used ≡ printedUsed printed
 
 -- At least so many bytes are to be lent for a text: the longest that any result block can give.
 abbrev pub textRoom : ℕ

@@ -6,7 +6,8 @@ ghost use Prim.Native.Nat.{_≤_};
 ghost use lib.ListN.{length};
 ghost use Rattle.memory.specs.Placed.{Follows};
 ghost use Rattle.listing.specs.Lines.{Legible, legible, networkOf};
-ghost use Rattle.text.specs.Printed.{TextLeft, refusalOf};
+ghost use Rattle.text.specs.Printed.{ToldText, TextLeft, refusalOf};
+use answers::Told;
 use answers::tell;
 use lines::put;
 use lines::say;
@@ -23,6 +24,29 @@ pub enum Printed {
     Done { used: usize },
     Room,
     Block,
+}
+
+// Its number, its place, and the bytes used.
+pub fn tell_text(printed: Printed) -> Told
+    ensures { λ r. ⌜ ToldText printed r ⌝ }
+{
+    match printed {
+        Printed::Done { used } => Told {
+            number: 0,
+            place: 0,
+            used,
+        },
+        Printed::Room => Told {
+            number: 80,
+            place: 0,
+            used: 0,
+        },
+        Printed::Block => Told {
+            number: 81,
+            place: 0,
+            used: 0,
+        },
+    }
 }
 
 // Whether the block is one that can be read back with this job, of at most 8,128 links.

@@ -1,6 +1,16 @@
 // The stored jobs: each file that an argument names is answered, one behind the other.
+use service::answer_text;
 
-// The answer to the job in the file that argument k names.
+// The answer to the job that a descriptor hands out.
+fn answer(fd: i32) {
+    let mut job = [0u8; 16525];
+    let n = io::read_full(fd, &mut job);
+    let mut out = [0u8; 172718];
+    let used = answer_text(&job[..n], &mut out);
+    io::write_all(libc::STDOUT_FILENO, &out[0..used]);
+}
+
+// The job in the file that argument k names.
 fn answer_file(k: usize) {
     let mut path = io::buffer();
     let n = os::arg(k, &mut path);
@@ -9,7 +19,7 @@ fn answer_file(k: usize) {
         os::fail(&path[..n]);
         return;
     }
-    console::answer_from(fd);
+    answer(fd);
     libc::close(fd);
 }
 

@@ -1,4 +1,4 @@
--- `cases::build::put_grid` is safe and ends: one row is put at a time.
+-- `cases::build::put_grid` is safe and ends: states fit a byte, and one row is put at a time.
 use mathlib.Core.Path.{_≡_}
 use Prim.Native.Nat.{_-_}
 use native.Mathlib.Omega.{arith}
@@ -15,26 +15,32 @@ abbrev μ-loop : tie.MeasureT-loop
 loop-holds : tie.Need-loop-holds Inv-loop μ-loop
 loop-holds c = omega arith
 
-div-state : tie.Need-div-state Inv-loop μ-loop
-div-state c = omega arith
+div-t12 : tie.Need-div-t12 Inv-loop μ-loop
+div-t12 c = omega arith
 
-state-requires : tie.Need-state-requires Inv-loop μ-loop
-state-requires c κs = omega arith
+add-t14 : tie.Need-add-t14 Inv-loop μ-loop
+add-t14 c = omega arith
+
+cast-t15 : tie.Need-cast-t15 Inv-loop μ-loop
+cast-t15 c = omega arith
+
+rem-t16 : tie.Need-rem-t16 Inv-loop μ-loop
+rem-t16 c = omega arith
+
+add-t18 : tie.Need-add-t18 Inv-loop μ-loop
+add-t18 c = omega arith
+
+cast-t19 : tie.Need-cast-t19 Inv-loop μ-loop
+cast-t19 c = omega arith
+
+slice-aggregate-put : tie.Need-slice-aggregate-put Inv-loop μ-loop
+slice-aggregate-put c = omega arith
 
 put-requires : tie.Need-put-requires Inv-loop μ-loop
 put-requires c κs = omega arith
 
-rem-state : tie.Need-rem-state Inv-loop μ-loop
-rem-state c = omega arith
-
-state-requires-2 : tie.Need-state-requires-2 Inv-loop μ-loop
-state-requires-2 c κs = omega arith
-
 put-requires-2 : tie.Need-put-requires-2 Inv-loop μ-loop
 put-requires-2 c κs = omega arith
-
-put-all-requires : tie.Need-put-all-requires Inv-loop μ-loop
-put-all-requires c κs = omega arith
 
 add-k : tie.Need-add-k Inv-loop μ-loop
 add-k c = omega arith
@@ -58,13 +64,15 @@ put-grid-spec =
     Inv-loop
     μ-loop
     loop-holds
-    div-state
-    state-requires
+    div-t12
+    add-t14
+    cast-t15
+    rem-t16
+    add-t18
+    cast-t19
+    slice-aggregate-put
     put-requires
-    rem-state
-    state-requires-2
     put-requires-2
-    put-all-requires
     add-k
     loop-less
     loop-again

@@ -1,4 +1,4 @@
--- `cases::build::put_head` is safe and ends: the whole length fits 16 bits, and each weight is put once.
+-- `cases::build::put_head` is safe and ends: every number fits, and each is put once.
 use mathlib.Core.Path.{_≡_}
 use Prim.Native.Nat.{_-_}
 use native.Mathlib.Omega.{arith}
@@ -7,55 +7,55 @@ use Rattle.cases.proofs.build.put_head.Statement.{statement}
 use Rattle.cases.proofs.build.put_head.Tie as tie
 
 abbrev Inv-loop : tie.InvT-loop
-Inv-loop job₀ n m at at' at'' at'3 at'4 at₀ counter₀ job at'5 counter = length job ≡ length job₀
+Inv-loop job₀ n m head at₀ k₀ k-end job at k = length job ≡ length job₀
 
 abbrev μ-loop : tie.MeasureT-loop
-μ-loop job₀ n m at at' at'' at'3 at'4 at₀ counter₀ job at'5 counter = m - counter
+μ-loop job₀ n m head at₀ k₀ k-end job at k = k-end - k
 
-put-number-requires : tie.Need-put-number-requires Inv-loop μ-loop
-put-number-requires c κs = omega arith
+mul-t8 : tie.Need-mul-t8 Inv-loop μ-loop
+mul-t8 c = omega arith
 
-put-number-requires-2 : tie.Need-put-number-requires-2 Inv-loop μ-loop
-put-number-requires-2 c κs = omega arith
+add-t9 : tie.Need-add-t9 Inv-loop μ-loop
+add-t9 c = omega arith
 
-put-number-requires-3 : tie.Need-put-number-requires-3 Inv-loop μ-loop
-put-number-requires-3 c κs = omega arith
+mul-t10 : tie.Need-mul-t10 Inv-loop μ-loop
+mul-t10 c = omega arith
 
-put-number-requires-4 : tie.Need-put-number-requires-4 Inv-loop μ-loop
-put-number-requires-4 c κs = omega arith
+add-t11 : tie.Need-add-t11 Inv-loop μ-loop
+add-t11 c = omega arith
 
-mul-put-number : tie.Need-mul-put-number Inv-loop μ-loop
-mul-put-number c = omega arith
+mul-t12 : tie.Need-mul-t12 Inv-loop μ-loop
+mul-t12 c = omega arith
 
-add-put-number : tie.Need-add-put-number Inv-loop μ-loop
-add-put-number c = omega arith
+add-t13 : tie.Need-add-t13 Inv-loop μ-loop
+add-t13 c = omega arith
 
-put-number-requires-5 : tie.Need-put-number-requires-5 Inv-loop μ-loop
-put-number-requires-5 c κs = omega arith
-
-mul-put-number-2 : tie.Need-mul-put-number-2 Inv-loop μ-loop
-mul-put-number-2 c = omega arith
-
-add-put-number-2 : tie.Need-add-put-number-2 Inv-loop μ-loop
-add-put-number-2 c = omega arith
-
-mul-put-number-3 : tie.Need-mul-put-number-3 Inv-loop μ-loop
-mul-put-number-3 c = omega arith
-
-add-put-number-3 : tie.Need-add-put-number-3 Inv-loop μ-loop
-add-put-number-3 c = omega arith
-
-put-number-requires-6 : tie.Need-put-number-requires-6 Inv-loop μ-loop
-put-number-requires-6 c κs = omega arith
+add-k-end : tie.Need-add-k-end Inv-loop μ-loop
+add-k-end c = omega arith
 
 loop-holds : tie.Need-loop-holds Inv-loop μ-loop
 loop-holds c = omega arith
 
-put-number-requires-7 : tie.Need-put-number-requires-7 Inv-loop μ-loop
-put-number-requires-7 c κs = omega arith
+mul-x : tie.Need-mul-x Inv-loop μ-loop
+mul-x c = omega arith
 
-add-counter : tie.Need-add-counter Inv-loop μ-loop
-add-counter c = omega arith
+array-read-x : tie.Need-array-read-x Inv-loop μ-loop
+array-read-x c = omega arith
+
+cast-t25 : tie.Need-cast-t25 Inv-loop μ-loop
+cast-t25 c = omega arith
+
+cast-t28 : tie.Need-cast-t28 Inv-loop μ-loop
+cast-t28 c = omega arith
+
+slice-aggregate-put : tie.Need-slice-aggregate-put Inv-loop μ-loop
+slice-aggregate-put c = omega arith
+
+put-requires : tie.Need-put-requires Inv-loop μ-loop
+put-requires c κs = omega arith
+
+add-k : tie.Need-add-k Inv-loop μ-loop
+add-k c = omega arith
 
 loop-less : tie.Need-loop-less Inv-loop μ-loop
 loop-less c = omega arith
@@ -75,21 +75,21 @@ put-head-spec =
     (tie.spec
     Inv-loop
     μ-loop
-    put-number-requires
-    put-number-requires-2
-    put-number-requires-3
-    put-number-requires-4
-    mul-put-number
-    add-put-number
-    put-number-requires-5
-    mul-put-number-2
-    add-put-number-2
-    mul-put-number-3
-    add-put-number-3
-    put-number-requires-6
+    mul-t8
+    add-t9
+    mul-t10
+    add-t11
+    mul-t12
+    add-t13
+    add-k-end
     loop-holds
-    put-number-requires-7
-    add-counter
+    mul-x
+    array-read-x
+    cast-t25
+    cast-t28
+    slice-aggregate-put
+    put-requires
+    add-k
     loop-less
     loop-again
     same-length
