@@ -7,7 +7,6 @@ ghost use Prim.Native.Nat.{_+_, _*_, _≤_, _<_};
 ghost use lib.ListN.{length};
 ghost use Rattle.distances.specs.Area.{Weighed};
 ghost use Rattle.links.specs.Marks.{marked};
-ghost use Rattle.triplets.specs.Followers.{Followers};
 ghost use Rattle.search.specs.Swept.{Swept};
 ghost use Rattle.candidates.specs.Candidate.{Candidate, WithFirst, AtCentre, Everywhere, Ready, IsNone, IsSorted, Fresh};
 use ascending::ascending;

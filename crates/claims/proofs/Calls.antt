@@ -1,22 +1,21 @@
 -- The claims of the definitions, said of a call: its answer and the bytes that it leaves.
 use mathlib.Core.Path.{_≡_, refl, sym, ap, _∙_}
-use mathlib.Core.Logic.{_≢_, _↔_}
-use mathlib.Core.List.{List, _++_}
-use Prim.Native.Nat.{ℕ, zero, suc, _+_, _-_, _/_, _≤_, _<_}
+use mathlib.Core.Logic.{_≢_}
+use mathlib.Core.List.{_++_}
+use Prim.Native.Nat.{ℕ, _+_, _-_, _/_, _≤_}
 use native.Mathlib.Omega.{arith}
-use lib.ListN.{length, getD, replicate, length-replicate}
+use lib.ListN.{length, getD, replicate}
 use lib.Seq.{getD-append-add}
 use Rattle.rules.specs.Answers.{number, used}
 use Rattle.rules.specs.Job.{Bytes, width}
 use Rattle.rules.specs.Lent.{Lent}
-use Rattle.rules.specs.Run.{Network}
 use Rattle.rules.specs.Call.{Verdict, refused, found, verdict, written, answer, resultAfter}
 use Rattle.rules.specs.declared.Answer.{Answer}
 use Rattle.rules.specs.declared.Answer.the-variants.{Done, Area, Head, Rows, Width, Layout, Weight, State, Types, Room, Split}
 use Rattle.found.specs.ReadBack.{readBack}
 use Rattle.found.proofs.Found.{answered, verdict-numbered}
 use Rattle.found.proofs.Result.{read-result}
-use Rattle.network.specs.Called.{lentBy, Called}
+use Rattle.network.proofs.Left.{zero-at}
 use Rattle.claims.specs.Drawing.{Drawn}
 use Rattle.claims.specs.Calls.{Memory, SameLengths, lengthsOf, Calls}
 use Rattle.claims.proofs.Drawn.{drawn}
@@ -49,11 +48,6 @@ module _ (job : Bytes) (before before′ after after′ : Memory) (r r′ : Answ
   }
 
 -- ── What a call leaves ──
-
-zero-at : (n i : ℕ) → _≡_ {A = ℕ} (getD (replicate n 0) i 0) 0
-zero-at zero i = refl
-zero-at (suc n) zero = refl
-zero-at (suc n) (suc i) = zero-at n i
 
 -- Zeros behind so many bytes.
 zeros-behind : (xs : Bytes) (n k : ℕ) → length xs ≤ k → _≡_ {A = ℕ} (getD (xs ++ replicate n 0) k 0) 0

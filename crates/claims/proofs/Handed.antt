@@ -2,16 +2,15 @@
 use mathlib.Core.Path.{_≡_, refl, sym, ap, _∙_}
 use mathlib.Core.Logic.{_↔_, _≢_}
 use mathlib.Core.Bool.{Bool, true, false}
-use mathlib.Core.List.{List, []}
+use mathlib.Core.List.{[]}
 use Prim.Native.Nat.{ℕ, _+_, _*_, _-_, _≤_, _<_}
 use native.Mathlib.Omega.{arith}
 use native.Mathlib.Decide.{decLt}
 use lib.ListN.{length, take, drop, length-drop}
 use lib.Seq.{length-take-le}
 use borrow.Author.Tests.{eq-eqb, le-leb}
-use Rattle.rules.specs.Answers.{number}
-use Rattle.rules.specs.Job.{Bytes, rows, width, checked}
-use Rattle.rules.specs.Result.{recordsOffset, rowsOffset, linksOffset}
+use Rattle.rules.specs.Job.{Bytes, rows, width}
+use Rattle.rules.specs.Result.{linksOffset}
 use Rattle.rules.specs.Lookup.{lookup}
 use Rattle.rules.proofs.Job.{passed-is}
 use Rattle.lookup.specs.Match.{matches}

@@ -1,7 +1,6 @@
 // The room of a network's lines: its own, one for each type, one for each link, as a result block gives them. Job and block are only
 // read; the lines go behind what is written.
 
-ghost use mathlib.Core.Path.{_≡_};
 ghost use Prim.Native.Nat.{_+_, _*_, _≤_, _<_};
 ghost use lib.ListN.{length};
 ghost use Rattle.rules.specs.Job.{word};

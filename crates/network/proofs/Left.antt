@@ -8,7 +8,6 @@ use Rattle.graph.proofs.Below.{table-ext, table-getD}
 use Rattle.rules.specs.Job.{Bytes, width}
 use Rattle.rules.specs.Lent.{Lent}
 use Rattle.rules.specs.Call.{verdict, written, resultAfter, padded}
-use Rattle.rules.specs.declared.Link.{Link}
 use Rattle.memory.specs.Placed.{placed}
 use Rattle.memory.proofs.Placed.{placed-padded}
 use Rattle.rules.specs.declared.Answer.{Answer}
@@ -20,7 +19,8 @@ pub result-after : (lent : Lent) (job result′ : Bytes) → result′ ≡ place
 unfolding resultAfter
 result-after lent job result′ e = e ∙ placed-padded (lent .result) (written (width job) (verdict lent job))
 
-zero-at : (n i : ℕ) → _≡_ {A = ℕ} (getD (replicate n 0) i 0) 0
+-- Zeros at every place, and a table of one element.
+pub zero-at : (n i : ℕ) → _≡_ {A = ℕ} (getD (replicate n 0) i 0) 0
 zero-at zero i = refl
 zero-at (suc n) zero = refl
 zero-at (suc n) (suc i) = zero-at n i

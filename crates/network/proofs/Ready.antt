@@ -4,23 +4,22 @@ use mathlib.Core.Bool.{false}
 use mathlib.Core.List.{List}
 use Prim.Native.Nat.{ℕ, _-_, _≤_, _<_}
 use native.Mathlib.Omega.{arith}
-use lib.ListN.{length, getD}
+use lib.ListN.{length}
 use Rattle.graph.proofs.Below.{length-table, getD-table}
 use Rattle.rules.specs.Answers.{number}
 use Rattle.rules.specs.Job.{Bytes, width, weights, checked}
-use Rattle.rules.specs.Types.{Node, nodeAt}
+use Rattle.rules.specs.Types.{nodeAt}
 use Rattle.rules.specs.Lent.{areaShort}
 use Rattle.rules.specs.Purge.{Run}
-use Rattle.rules.specs.Run.{settled, Network, phaseTwo}
+use Rattle.rules.specs.Run.{Network, phaseTwo}
 use Rattle.rules.specs.Result.{recordOf}
-use Rattle.rules.specs.Call.{outcome, found, verdict}
+use Rattle.rules.specs.Call.{found, verdict}
 use Rattle.rules.specs.Cases.{lent}
-use Rattle.rules.specs.declared.Kind.{Kind}
 use Rattle.rules.specs.declared.Origin.{Origin}
 use Rattle.rules.specs.declared.Origin.the-variants.{Sampled, Inferred}
 use Rattle.rules.proofs.Job.{passed-is}
 use Rattle.rules.proofs.Block.{Fits16, sampledCount}
-use Rattle.types.specs.State.{blank, nodesIn}
+use Rattle.types.specs.State.{nodesIn}
 use Rattle.records.specs.Records.{OriginFits, kindAt}
 use Rattle.result.specs.Written.{Ready}
 use Rattle.run.specs.Network.{networkIn}

@@ -17,7 +17,8 @@ use Rattle.result.specs.Written.{Written}
 use Rattle.run.specs.Ran.{Ran}
 use Rattle.run.specs.declared.Ended.{Ended}
 use Rattle.run.proofs.Once.{settles}
-use Rattle.network.specs.Called.{lengths, areasAnswer, SameLengths, Drawn, Answered}
+use Rattle.areas.specs.Areas.{lengths, areasAnswer}
+use Rattle.network.specs.Called.{SameLengths, Drawn, Answered}
 use Rattle.network.proofs.Verdicts.{first-verdict, first-passed, ran-refused, ran-found, wrote-nothing, wrote-network}
 use Rattle.network.proofs.Ready.{ran-done, told}
 

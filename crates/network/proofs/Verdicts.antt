@@ -1,12 +1,12 @@
 -- The verdict by the stages of the call: the first refusal of checks 1 to 7; then what the run answers, or its network.
-use mathlib.Core.Path.{_≡_, refl, sym, ap, _∙_}
+use mathlib.Core.Path.{_≡_, refl, ap, _∙_}
 use mathlib.Core.Logic.{_≢_}
 use mathlib.Core.Bool.{Bool, true, false, cond}
 use Prim.Native.Nat.{ℕ}
 use native.Mathlib.Omega.{arith}
 use lib.Dec.{eqb}
 use lib.ListN.{length}
-use borrow.Author.Tests.{eqb-true, eqb-false, eq-eqb, ne-eqb}
+use borrow.Author.Tests.{eq-eqb, ne-eqb}
 use Rattle.rules.specs.Answers.{number, when_refuse_else_, passed}
 use Rattle.rules.specs.Job.{Bytes, width, weights, jobRows, checked}
 use Rattle.rules.specs.Lent.{Lent, areaShort}
@@ -20,10 +20,11 @@ use Rattle.rules.specs.declared.Answer.the-variants.{Done, Area, Types}
 use Rattle.memory.specs.Placed.{placed}
 use Rattle.memory.proofs.Placed.{placed-none}
 use Rattle.answers.specs.Told.{firstOf}
-use Rattle.answers.proofs.First.{first-refuses, neither-refuses}
+use Rattle.answers.proofs.First.{neither-refuses}
 use Rattle.run.specs.Ran.{runAnswer, ranTo}
 use Rattle.found.proofs.Found.{never-split-network}
-use Rattle.network.specs.Called.{areasAnswer, Wrote}
+use Rattle.areas.specs.Areas.{areasAnswer}
+use Rattle.network.specs.Called.{Wrote}
 
 -- Two tests, one behind the other.
 module _ (a b : Answer) (next : Verdict) where

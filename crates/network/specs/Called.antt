@@ -5,19 +5,15 @@ use mathlib.Core.List.{List}
 use Prim.Native.Nat.{ℕ, _+_, _*_, _/_}
 use lib.ListN.{length, getD, replicate}
 use Rattle.graph.specs.Below.{table}
-use Rattle.rules.specs.Answers.{when_refuse_else_, passed}
 use Rattle.rules.specs.Job.{Bytes, width}
 use Rattle.rules.specs.Lent.{Lent, areaShort}
 use Rattle.rules.specs.Call.{verdict, written, answer, Served}
 use Rattle.rules.specs.declared.Answer.{Answer}
-use Rattle.rules.specs.declared.Answer.the-variants.{Area}
 use Rattle.rules.specs.declared.Link.{Link}
 use Rattle.memory.specs.Placed.{placed}
+use Rattle.areas.specs.Areas.{lengths}
 
 -- The lengths lent. The link table is lent as numbers, three to a record.
-abbrev pub lengths : ℕ → ℕ → ℕ → ℕ → Lent
-lengths result states distances links = record { result = result; states = states; distances = distances; links = links }
-
 abbrev pub lentBy : Bytes → Bytes → List ℕ → List ℕ → Lent
 lentBy result states distances links = lengths (length result) (length states) (length distances) (length links / 3)
 
@@ -30,10 +26,6 @@ pub record Called (job result states : Bytes) (distances links : List ℕ) (r : 
   pub table-left : links′ ≡ replicate (length links) 0
 
 -- ── The steps of the call ──
-
--- Check 1.
-abbrev pub areasAnswer : Lent → Answer
-areasAnswer lent = when areaShort lent refuse Area else passed
 
 -- The rules' answer is given, and what they write stands at the front of the result.
 pub record Wrote (lent : Lent) (job result : Bytes) (r : Answer) (result′ : Bytes) : Type 0 where

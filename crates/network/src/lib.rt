@@ -6,9 +6,10 @@ ghost use Prim.Native.Nat.{_≤_, _/_};
 ghost use lib.ListN.{length};
 ghost use Rattle.rules.specs.Answers.{number};
 ghost use Rattle.rules.specs.Job.{checked};
-ghost use Rattle.network.specs.Called.{lengths, areasAnswer, Drawn, Answered, Called};
+ghost use Rattle.network.specs.Called.{Drawn, Answered, Called};
 use answers::first_of;
 use answers::tell;
+use areas::check_areas;
 use checks::check;
 use job::header_of;
 use memory::clear_bytes;
@@ -16,25 +17,6 @@ use memory::clear_words;
 use result::write;
 use rules::Answer;
 use run::run;
-
-// Check 1: no lent area is shorter than document 01 asks.
-fn check_areas(result: usize, states: usize, distances: usize, links: usize) -> Answer
-    ensures { λ r. ⌜ r ≡ areasAnswer (lengths result states distances links) ⌝ }
-{
-    if result < 57680 {
-        return Answer::Area;
-    }
-    if states < 8192 {
-        return Answer::Area;
-    }
-    if distances < 16384 {
-        return Answer::Area;
-    }
-    if links < 8128 {
-        return Answer::Area;
-    }
-    Answer::Done { used: 0 }
-}
 
 // The network of a job that passed checks 1 to 7, run and then written; or the refusals 8 and 9.
 fn draw(job: &[u8], result: &mut [u8], states: &mut [u8], distances: &mut [u16]) -> Answer

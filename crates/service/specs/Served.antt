@@ -12,7 +12,8 @@ use Rattle.rules.specs.Text.{printed}
 use Rattle.text.specs.Printed.{textRoom, printedBytes}
 use Rattle.text.specs.declared.Printed.{Printed}
 use Rattle.text.specs.declared.Printed.the-variants.{Done, Room}
-use Rattle.network.specs.Called.{lengths, lentBy, Called}
+use Rattle.areas.specs.Areas.{lengths}
+use Rattle.network.specs.Called.{lentBy, Called}
 
 -- A text in memory of some length: there is room for every text, or nothing is written.
 abbrev pub printedIn : ℕ → Bytes → Printed

@@ -1,6 +1,5 @@
 -- `answers::first_of` meets its contract.
 use mathlib.Core.Path.{sym, _∙_}
-use native.Mathlib.Omega.{arith}
 use borrow.Author.Needs.{needs}
 use Rattle.answers.proofs.First.{first-refuses, first-passes}
 use Rattle.answers.proofs.first_of.Statement.{statement}

@@ -5,7 +5,7 @@ use borrow.Author.Needs.{needs}
 use Rattle.rules.specs.Job.{checked}
 use Rattle.answers.specs.Told.{firstOf}
 use Rattle.found.proofs.Lent.{enough}
-use Rattle.network.specs.Called.{lengths, areasAnswer}
+use Rattle.areas.specs.Areas.{lengths, areasAnswer}
 use Rattle.network.proofs.Verdicts.{first-passed}
 use Rattle.network.proofs.Steps.{answered-first, answered-drawn}
 use Rattle.network.proofs.answer_job.Statement.{statement}
