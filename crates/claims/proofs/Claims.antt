@@ -32,7 +32,7 @@ use Rattle.text.specs.declared.Printed.{Printed}
 use Rattle.text.proofs.Once as text
 use Rattle.service.proofs.Text as service
 use Rattle.claims.specs.Drawing.{Drawn}
-use Rattle.claims.specs.Refusals.{Condition}
+use Rattle.claims.specs.Refusals.{Condition, Turn}
 use Rattle.claims.specs.Calls.{Memory, SameLengths, lengthsOf, Calls}
 use Rattle.claims.specs.Handed.{Handed}
 use Rattle.claims.proofs.Drawn as drawing
@@ -67,9 +67,8 @@ module _ (job : Bytes) (before after : Memory) (r : Answer) (call : Calls job be
 
   -- ── Demand 2: each refusal is given exactly when its condition holds and no earlier one does ──
 
-  pub refused-exactly : (a : Answer) → number a ≢ 0 →
-      (r ≡ a) ↔ (Condition (lengthsOf before) job a × ((b : Answer) → number b < number a → ¬ Condition (lengthsOf before) job b))
-  refused-exactly a n = rw (call .served .answered) (refusals.refused-exactly (lengthsOf before) job a n)
+  pub refused-exactly : (a : Answer) → number a ≢ 0 → (r ≡ a) ↔ Turn (lengthsOf before) job a
+  refused-exactly a n = rw (call .served .answered) (refusals.given-in-turn (lengthsOf before) job a n)
 
   -- No refusal is given exactly if no condition holds.
   pub accepted : (number r ≡ 0) ↔ ((a : Answer) → ¬ Condition (lengthsOf before) job a)

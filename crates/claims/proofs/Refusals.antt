@@ -25,7 +25,7 @@ use Rattle.rules.proofs.Ends.{phase-same}
 use Rattle.rules.proofs.Types.{is-first, Nth, too-many, too-many-at, length-sampled, few-sampled}
 use Rattle.found.specs.Runs.{Runs}
 use Rattle.found.proofs.Found.{never-split-network, unrefused, runs-outcome}
-use Rattle.claims.specs.Refusals.{FirstOf, Outside, WrongField, weights-offset, states-offset, whole-length, bytes-lent, Type129, Condition}
+use Rattle.claims.specs.Refusals.{FirstOf, Outside, WrongField, weights-offset, states-offset, whole-length, bytes-lent, Type129, Condition, order, Turn}
 use Rattle.claims.proofs.Drawing.{network-joined}
 
 -- ── The table by its numbers ──
@@ -282,7 +282,7 @@ module _ (lent : Lent) (job : Bytes) where
   )
 
   -- A refusal is the answer exactly if its condition holds and no earlier one does.
-  pub refused-exactly : (a : Answer) → number a ≢ 0 →
+  refused-exactly : (a : Answer) → number a ≢ 0 →
       (answer lent job ≡ a) ↔ (Condition lent job a × ((b : Answer) → number b < number a → ¬ Condition lent job b))
   refused-exactly a n = (there, λ s. back (s .0) (s .1))
     where
@@ -315,3 +315,24 @@ module _ (lent : Lent) (job : Bytes) where
   -- SPLIT is never the answer.
   pub never-split-answer : answer lent job ≢ Split
   never-split-answer e = let s = refused-exactly Split (λ z. omega arith) .0 e .0 in s .2 (network-joined ws (s .0))
+
+-- The order in which the refusals are tried is that of their numbers.
+order-is : (a : Answer) → order a ≡ number a
+order-is (Done used) = refl
+order-is Area = refl
+order-is Head = refl
+order-is Rows = refl
+order-is Width = refl
+order-is (Layout place) = refl
+order-is (Weight column) = refl
+order-is (State place) = refl
+order-is (Types row) = refl
+order-is (Room round) = refl
+order-is Split = refl
+
+pub given-in-turn : (lent : Lent) (job : Bytes) (a : Answer) → number a ≢ 0 → (answer lent job ≡ a) ↔ Turn lent job a
+given-in-turn lent job a n =
+    let (there, back) = refused-exactly lent job a n in (
+      λ e. let (given, none) = there e in (given, λ b h. none b (omega (arith, h, order-is a, order-is b))),
+      λ t. back (t .0, λ b h. t .1 b (omega (arith, h, order-is a, order-is b))),
+    )

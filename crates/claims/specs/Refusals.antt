@@ -51,3 +51,21 @@ Condition lent job (State place) = FirstOf (rows job * width job) (λ i. Outside
 Condition lent job (Types row) = Type129 (jobRows job) row
 Condition lent job (Room round) = Runs job (full round)
 Condition lent job Split = (run : Run) × Runs job (settled run) × ¬ JoinsAll (phaseTwo (weights job) run)
+
+-- The order in which they are tried: the table's first column.
+abbrev pub order : Answer → ℕ
+order (Done used) = 0
+order Area = 1
+order Head = 2
+order Rows = 3
+order Width = 4
+order (Layout place) = 5
+order (Weight column) = 6
+order (State place) = 7
+order (Types row) = 8
+order (Room round) = 9
+order Split = 10
+
+-- A refusal's turn: its condition holds, and none that is tried before it does.
+abbrev pub Turn : Lent → Bytes → Answer → Type 0
+Turn lent job a = Condition lent job a × ((b : Answer) → order b < order a → ¬ Condition lent job b)
