@@ -11,7 +11,8 @@ use Rattle.rules.specs.Call.{verdict, written, resultAfter, padded}
 use Rattle.memory.specs.Placed.{placed}
 use Rattle.memory.proofs.Placed.{placed-padded}
 use Rattle.rules.specs.declared.Answer.{Answer}
-use Rattle.network.specs.Called.{lentBy, recordsIn, Wrote, Answered, Called}
+use Rattle.draw.specs.Drawn.{Wrote}
+use Rattle.network.specs.Called.{lentBy, recordsIn, Answered, Called}
 
 -- What is written to the front of zeros is the result that the rules leave.
 pub result-after : (lent : Lent) (job result′ : Bytes) → result′ ≡ placed (replicate (lent .result) 0) 0 (written (width job) (verdict lent job)) →

@@ -1,4 +1,2 @@
-pub mod Verdicts
-pub mod Ready
 pub mod Steps
 pub mod Left

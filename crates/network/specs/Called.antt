@@ -1,17 +1,16 @@
 -- The public call: what it answers and what it leaves in everything lent, for every input.
 use mathlib.Core.Path.{_≡_}
-use mathlib.Core.Bool.{false}
 use mathlib.Core.List.{List}
 use Prim.Native.Nat.{ℕ, _+_, _*_, _/_}
 use lib.ListN.{length, getD, replicate}
 use Rattle.graph.specs.Below.{table}
-use Rattle.rules.specs.Job.{Bytes, width}
-use Rattle.rules.specs.Lent.{Lent, areaShort}
-use Rattle.rules.specs.Call.{verdict, written, answer, Served}
+use Rattle.rules.specs.Job.{Bytes}
+use Rattle.rules.specs.Lent.{Lent}
+use Rattle.rules.specs.Call.{Served}
 use Rattle.rules.specs.declared.Answer.{Answer}
 use Rattle.rules.specs.declared.Link.{Link}
-use Rattle.memory.specs.Placed.{placed}
 use Rattle.areas.specs.Areas.{lengths}
+use Rattle.draw.specs.Drawn.{SameLengths, Wrote}
 
 -- The lengths lent. The link table is lent as numbers, three to a record.
 abbrev pub lentBy : Bytes → Bytes → List ℕ → List ℕ → Lent
@@ -25,22 +24,7 @@ pub record Called (job result states : Bytes) (distances links : List ℕ) (r : 
   pub served : Served (lentBy result states distances links) job r result′ states′ distances′ (recordsIn links′)
   pub table-left : links′ ≡ replicate (length links) 0
 
--- ── The steps of the call ──
-
--- The rules' answer is given, and what they write stands at the front of the result.
-pub record Wrote (lent : Lent) (job result : Bytes) (r : Answer) (result′ : Bytes) : Type 0 where
-  pub answered : r ≡ answer lent job
-  pub result-is : result′ ≡ placed result 0 (written (width job) (verdict lent job))
-
--- The work areas keep their lengths.
-pub record SameLengths (states : Bytes) (distances : List ℕ) (states′ : Bytes) (distances′ : List ℕ) : Type 0 where
-  pub states-size : length states′ ≡ length states
-  pub distances-size : length distances′ ≡ length distances
-
--- Of a job that passed checks 2 to 7, whatever lengths are lent that check 1 lets pass.
-pub record Drawn (job result states : Bytes) (distances : List ℕ) (r : Answer) (result′ states′ : Bytes) (distances′ : List ℕ) : Type 0 where
-  pub sizes : SameLengths states distances states′ distances′
-  pub wrote : (lent : Lent) → areaShort lent ≡ false → Wrote lent job result r result′
+-- The job is answered: what is written and what keeps its length, before the work areas are cleared.
 
 pub record Answered (job result states : Bytes) (distances : List ℕ) (links : ℕ) (r : Answer) (result′ states′ : Bytes) (distances′ : List ℕ) : Type 0 where
   pub sizes : SameLengths states distances states′ distances′

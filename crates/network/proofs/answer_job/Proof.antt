@@ -6,7 +6,7 @@ use Rattle.rules.specs.Job.{checked}
 use Rattle.answers.specs.Told.{firstOf}
 use Rattle.found.proofs.Lent.{enough}
 use Rattle.areas.specs.Areas.{lengths, areasAnswer}
-use Rattle.network.proofs.Verdicts.{first-passed}
+use Rattle.draw.proofs.Verdicts.{first-passed}
 use Rattle.network.proofs.Steps.{answered-first, answered-drawn}
 use Rattle.network.proofs.answer_job.Statement.{statement}
 use Rattle.network.proofs.answer_job.Tie as tie

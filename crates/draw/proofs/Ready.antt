@@ -27,7 +27,7 @@ use Rattle.run.specs.Ran.{Ran, runAnswer}
 use Rattle.run.specs.declared.Ended.{Ended}
 use Rattle.run.proofs.Once.{settles, ran-few}
 use Rattle.found.proofs.Result.{numbers-fit, few-rounds, block-short}
-use Rattle.network.proofs.Verdicts.{ran-found}
+use Rattle.draw.proofs.Verdicts.{ran-found}
 
 -- The least memory is long enough.
 least-enough : areaShort lent ≡ false

@@ -24,7 +24,7 @@ use Rattle.answers.proofs.First.{neither-refuses}
 use Rattle.run.specs.Ran.{runAnswer, ranTo}
 use Rattle.found.proofs.Found.{never-split-network}
 use Rattle.areas.specs.Areas.{areasAnswer}
-use Rattle.network.specs.Called.{Wrote}
+use Rattle.draw.specs.Drawn.{Wrote}
 
 -- Two tests, one behind the other.
 module _ (a b : Answer) (next : Verdict) where

@@ -1,11 +1,11 @@
--- `network::draw` meets its contract: the run refuses, or its network is written.
+-- `draw::draw` meets its contract: the run refuses, or its network is written.
 use mathlib.Core.Path.{sym, _∙_}
 use borrow.Author.Needs.{needs}
 use Rattle.rules.proofs.Job.{passed-is}
-use Rattle.network.proofs.Ready.{ready}
-use Rattle.network.proofs.Steps.{drawn-refused, drawn-network}
-use Rattle.network.proofs.draw.Statement.{statement}
-use Rattle.network.proofs.draw.Tie as tie
+use Rattle.draw.proofs.Ready.{ready}
+use Rattle.draw.proofs.Steps.{drawn-refused, drawn-network}
+use Rattle.draw.proofs.draw.Statement.{statement}
+use Rattle.draw.proofs.draw.Tie as tie
 
 run-requires : tie.Need-run-requires
 run-requires c κs = search needs
