@@ -9,15 +9,18 @@ use lib.Seq.{getD-append-add}
 use Rattle.rules.specs.Answers.{number, used}
 use Rattle.rules.specs.Job.{Bytes, width}
 use Rattle.rules.specs.Lent.{Lent}
-use Rattle.rules.specs.Call.{Verdict, refused, found, verdict, written, answer, resultAfter}
+use Rattle.rules.specs.Call.{Verdict, refused, found, verdict, written, answer, padded, resultAfter}
+use Rattle.rules.specs.Text.{printed}
 use Rattle.rules.specs.declared.Answer.{Answer}
 use Rattle.rules.specs.declared.Answer.the-variants.{Done, Area, Head, Rows, Width, Layout, Weight, State, Types, Room, Split}
 use Rattle.found.specs.ReadBack.{readBack}
 use Rattle.found.proofs.Found.{answered, verdict-numbered}
 use Rattle.found.proofs.Result.{read-result}
+use Rattle.text.specs.Printed.{printedBytes}
+use Rattle.text.specs.declared.Printed.{Printed}
 use Rattle.network.proofs.Left.{zero-at}
 use Rattle.claims.specs.Drawing.{Drawn}
-use Rattle.claims.specs.Calls.{Memory, SameLengths, lengthsOf, Calls}
+use Rattle.claims.specs.Calls.{Memory, SameLengths, lengthsOf, Calls, Serves}
 use Rattle.claims.proofs.Drawn.{drawn}
 
 -- ── Leftovers ──
@@ -46,6 +49,18 @@ module _ (job : Bytes) (before before′ after after′ : Memory) (r r′ : Answ
     distances = (a .served .distances-left ∙ ap (λ n. replicate n 0) (same .distances-length) ∙ sym (b .served .distances-left)) i;
     links = (a .table-left ∙ ap (λ n. replicate n 0) (same .links-length) ∙ sym (b .table-left)) i;
   }
+
+-- The same of a job that is served, over the same memory.
+pub same-served : (job : Bytes) (before after after′ : Memory) (out out₁ out₂ : Bytes) (r r′ : Printed) → Serves job before out r after out₁ →
+    Serves job before out r′ after′ out₂ → (r ≡ r′) × (after ≡ after′) × (out₁ ≡ out₂)
+same-served job before after after′ out out₁ out₂ r r′ a b =
+    let lengths : SameLengths before before = record { result-length = refl; states-length = refl; distances-length = refl; links-length = refl } in
+    let same = a .answered ∙ sym (b .answered) in
+    let text = printed (lengthsOf before) job in (
+      same,
+      same-memory job before before after after′ _ _ lengths (a .called) (b .called),
+      a .left ∙ ap (λ q. padded (length out) (printedBytes q text)) same ∙ sym (b .left),
+    )
 
 -- ── What a call leaves ──
 

@@ -27,13 +27,16 @@ use Rattle.rules.proofs.Decimals as decimals
 use Rattle.found.specs.ReadBack.{readBack}
 use Rattle.found.proofs.Found as network
 use Rattle.found.proofs.Result as result
-use Rattle.text.specs.Printed.{TextLeft, textOf}
+use Rattle.answers.specs.Told.{ToldOf}
+use Rattle.answers.specs.declared.Told.{Told}
+use Rattle.text.specs.Printed.{ToldText, textOf, TextLeft}
 use Rattle.text.specs.declared.Printed.{Printed}
 use Rattle.text.proofs.Once as text
+use Rattle.service.specs.Served.{TextOnly}
 use Rattle.service.proofs.Text as service
 use Rattle.claims.specs.Drawing.{Drawn}
 use Rattle.claims.specs.Refusals.{Condition, Turn}
-use Rattle.claims.specs.Calls.{Memory, SameLengths, lengthsOf, Calls}
+use Rattle.claims.specs.Calls.{Memory, SameLengths, lengthsOf, Calls, Serves}
 use Rattle.claims.specs.Handed.{Handed}
 use Rattle.claims.proofs.Drawn as drawing
 use Rattle.claims.proofs.Refusals as refusals
@@ -135,6 +138,29 @@ same-text job block a lent out out′ r r′ p q = text.text-one p q
 -- The text of what a call leaves is the text that document 01 prints.
 pub printed-text : (lent : Lent) (job : Bytes) → textOf job (resultAfter lent job) (answer lent job) ≡ printed lent job
 printed-text = service.text-is
+
+-- ── The service and what is told of an answer (`ServedText`, `TextOnly`, `ToldOf`, `ToldText`): no choice is left ──
+
+pub same-served : (job : Bytes) (before after after′ : Memory) (out out₁ out₂ : Bytes) (r r′ : Printed) → Serves job before out r after out₁ →
+    Serves job before out r′ after′ out₂ → (r ≡ r′) × (after ≡ after′) × (out₁ ≡ out₂)
+same-served = calls.same-served
+
+pub same-text-only : (job out out₁ out₂ : Bytes) (r r′ : ℕ) → TextOnly job out r out₁ → TextOnly job out r′ out₂ → (r ≡ r′) × (out₁ ≡ out₂)
+same-text-only job out out₁ out₂ r r′ a b = (a .used-is ∙ sym (b .used-is), a .left ∙ sym (b .left))
+
+pub same-told : (a : Answer) (r r′ : Told) → ToldOf a r → ToldOf a r′ → r ≡ r′
+same-told a r r′ p q i = record {
+  number = (p .number-is ∙ sym (q .number-is)) i;
+  place = (p .place-is ∙ sym (q .place-is)) i;
+  used = (p .used-is ∙ sym (q .used-is)) i;
+}
+
+pub same-told-text : (a : Printed) (r r′ : Told) → ToldText a r → ToldText a r′ → r ≡ r′
+same-told-text a r r′ p q i = record {
+  number = (p .number-is ∙ sym (q .number-is)) i;
+  place = (p .place-is ∙ sym (q .place-is)) i;
+  used = (p .used-is ∙ sym (q .used-is)) i;
+}
 
 -- ── No definition runs out of turns ──
 

@@ -1,4 +1,5 @@
--- The public call as a whole: what is lent, before and after. The claims about it name `Called`, the contract of `call` in `network`.
+-- The public call as a whole: what is lent, before and after. The claims about it name `Called`, the contract of `call` in `network`,
+-- and `ServedText`, that of `serve` in `service`.
 use mathlib.Core.Path.{_≡_}
 use mathlib.Core.List.{List}
 use Prim.Native.Nat.{ℕ}
@@ -6,7 +7,9 @@ use lib.ListN.{length}
 use Rattle.rules.specs.Job.{Bytes}
 use Rattle.rules.specs.Lent.{Lent}
 use Rattle.rules.specs.declared.Answer.{Answer}
+use Rattle.text.specs.declared.Printed.{Printed}
 use Rattle.network.specs.Called.{lentBy, Called}
+use Rattle.service.specs.Served.{ServedText}
 
 -- The memory lent to one job after another: result, state area, distance area, link table.
 pub record Memory : Type 0 where
@@ -29,3 +32,8 @@ lengthsOf m = lentBy (m .result) (m .states) (m .distances) (m .links)
 abbrev pub Calls : Bytes → Memory → Answer → Memory → Type 0
 Calls job before r after =
     Called job (before .result) (before .states) (before .distances) (before .links) r (after .result) (after .states) (after .distances) (after .links)
+
+-- A job is served: memory and the memory for its text before, how the text ended, both after.
+abbrev pub Serves : Bytes → Memory → Bytes → Printed → Memory → Bytes → Type 0
+Serves job before out r after out′ =
+    ServedText job (before .result) (before .states) (before .distances) (before .links) out r (after .result) (after .states) (after .distances) (after .links) out′
