@@ -104,6 +104,4 @@ cases =
     ∷ (job ("TC" ∷ "AA" ∷ "GC" ∷ []) (3 ∷ 3 ∷ []) 0 prints "types 4 sampled 3 links 4 rounds 1\nT 0 S 1 TC\nT 1 S 1 AA\nT 2 S 1 GC\nT 3 I 1 AC\nL 0 2 3\nL 0 3 3\nL 1 3 3\nL 2 3 3\n")
     -- Phase II without its purge
     ∷ (job ("~~!!!!" ∷ "!!~~!!" ∷ "!~~!!~" ∷ "~!~!~!" ∷ "~!~~~~" ∷ []) (3 ∷ 4 ∷ 4 ∷ 3 ∷ 4 ∷ 4 ∷ []) 1 prints "types 7 sampled 5 links 6 rounds 2\nT 0 S 1 ~~!!!!\nT 1 S 1 !!~~!!\nT 2 S 1 !~~!!~\nT 3 S 1 ~!~!~!\nT 4 S 1 ~!~~~~\nT 5 I 1 ~!~~~!\nT 6 I 2 !~~!!!\nL 0 6 7\nL 1 5 7\nL 1 6 7\nL 2 6 4\nL 3 5 3\nL 4 5 4\n")
-    -- a retired row that is made again
-    ∷ (job ("-GCTCGA" ∷ "CG-TTTT" ∷ "-GAT--A" ∷ "GCGGTGG" ∷ "--GCGGT" ∷ []) (374 ∷ 374 ∷ 374 ∷ 374 ∷ 374 ∷ 374 ∷ 374 ∷ []) 0 prints "types 13 sampled 5 links 18 rounds 4\nT 0 S 1 -GCTCGA\nT 1 S 1 CG-TTTT\nT 2 S 1 -GAT--A\nT 3 S 1 GCGGTGG\nT 4 S 1 --GCGGT\nT 5 I 1 -GAT-GA\nT 6 I 1 -GGTGGA\nT 7 I 2 -GAT-TA\nT 8 I 3 -GGT-GA\nT 9 I 3 -GGTCGA\nT 10 I 3 -GGTTGA\nT 11 I 4 -GATTTA\nT 12 I 4 -GGTTTA\nL 0 9 374\nL 1 11 1122\nL 1 12 1122\nL 2 5 374\nL 2 7 374\nL 3 10 1496\nL 4 6 1122\nL 5 7 374\nL 5 8 374\nL 6 8 374\nL 6 9 374\nL 6 10 374\nL 7 11 374\nL 8 9 374\nL 8 10 374\nL 9 10 374\nL 10 12 374\nL 11 12 374\n")
     ∷ []
