@@ -20,10 +20,11 @@ use Rattle.ascending.proofs.Sorted.{in-sorted, length-sorted, sorted-ascends}
 use Rattle.search.specs.Search.{forLambda, forAll}
 use Rattle.search.specs.declared.Search.{Search}
 use Rattle.search.specs.Swept.{Gathered, Swept}
+use Rattle.sweep.specs.Candidate.{Candidate, Faithful, Everywhere}
 use Rattle.candidates.specs.declared.Added.{Added}
-use Rattle.candidates.specs.Candidate.{Candidate, Faithful, Everywhere, InWindow, All, TooMany, Fresh, IsNone, IsSorted}
-use Rattle.candidates.proofs.Dropped.{gives-small}
-use Rattle.candidates.proofs.Seated.{candidate-met}
+use Rattle.candidates.specs.Fresh.{InWindow, All, TooMany, Fresh, IsNone, IsSorted}
+use Rattle.sweep.proofs.Dropped.{gives-small}
+use Rattle.sweep.proofs.Seated.{candidate-met}
 
 -- Lambda: some candidate costs this, and none costs less.
 pub record IsLambda (ws : List ℕ) (states : Bytes) (area : List ℕ) (n made lambda : ℕ) : Type 0 where

@@ -1,4 +1,1 @@
-pub mod Dropped
-pub mod Seated
-pub mod Walk
 pub mod Chosen

@@ -1,1 +1,1 @@
-pub mod Candidate
+pub mod Fresh

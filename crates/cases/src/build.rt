@@ -1,41 +1,64 @@
-// Jobs built in memory, byte behind byte. What is handed back is the place behind the last one.
+// Jobs built in memory, byte by byte.
 
+ghost use mathlib.Core.Path.{_≡_};
 ghost use Prim.Native.Nat.{_+_, _*_, _≤_};
+ghost use lib.ListN.{length};
 
-// What does not fit is left out.
-pub(crate) fn put(job: &mut [u8], at: usize, s: &[u8]) -> usize {
-    let mut at = at;
-    for i in 0..s.len() {
-        if job.len() <= at {
-            return at;
-        }
-        job[at] = s[i];
-        at += 1;
-    }
-    at
-}
-
-// The header of n rows of m, epsilon 0, and weights of 1.
-pub(crate) fn put_head(job: &mut [u8], n: usize, m: usize) -> usize
-    requires { ⌜ 12 + 2 * m + n * m ≤ 65535 ⌝ }
+// Byte i of the header, for n rows of m and epsilon 0, or of the weights behind it, each 1.
+fn head(n: usize, m: usize, i: usize) -> u8
+    requires { ⌜ 12 + 2 * m + n * m ≤ 16525 ⌝ }
 {
-    let head = [n, m, 0, 12, 12 + 2 * m, 12 + 2 * m + n * m];
-    let mut at = 0;
-    for k in 0..6 + m {
-        let x = if k < 6 { head[k] } else { 1 };
-        at = put(job, at, &[(x % 256) as u8, (x / 256 % 256) as u8]);
-    }
-    at
+    let x = match i {
+        0 => n,
+        1 => n / 256,
+        2 => m,
+        4 => 0,
+        6 => 12,
+        8 => 12 + 2 * m,
+        10 => 12 + 2 * m + n * m,
+        11 => (12 + 2 * m + n * m) / 256,
+        _ => 1 - i % 2,
+    };
+    (x % 256) as u8
 }
 
-// The first n rows over two columns, with b states in the second, and the same states behind each row.
-pub(crate) fn put_grid(job: &mut [u8], at: usize, n: usize, b: usize, behind: &[u8]) -> usize
+// The state of row k in column c. The grid lies over two columns, b states in the second, with the first state behind. The rows past
+// the grid are all at its first place, with 110, 101 and 011 behind.
+fn state(k: usize, c: usize, grid: usize, b: usize, first: u8) -> u8
     requires { ⌜ 1 ≤ b ⌝ }
 {
-    let mut at = at;
-    for k in 0..n {
-        at = put(job, at, &[(33 + k / b % 94) as u8, (33 + k % b % 94) as u8]);
-        at = put(job, at, behind);
+    let x = if k < grid {
+        match c {
+            0 => k / b,
+            1 => k % b,
+            _ => 0,
+        }
+    } else if (c < 2) | (c % 8 + (k - grid) % 8 == 4) {
+        0
+    } else {
+        1
+    };
+    first % 128 + (x % 64) as u8
+}
+
+fn byte(n: usize, m: usize, grid: usize, b: usize, first: u8, i: usize) -> u8
+    requires { ⌜ (1 ≤ m) × (1 ≤ b) × (12 + 2 * m + n * m ≤ 16525) ⌝ }
+{
+    if i < 12 + 2 * m {
+        return head(n, m, i);
     }
-    at
+    let at = i - 12 - 2 * m;
+    state(at / m, at % m, grid, b, first)
+}
+
+// What lies behind the last row is of no job.
+pub(crate) fn built(n: usize, m: usize, grid: usize, b: usize, first: u8) -> [u8; 16525]
+    requires { ⌜ (1 ≤ m) × (1 ≤ b) × (12 + 2 * m + n * m ≤ 16525) ⌝ }
+    ensures { λ r. ⌜ length r ≡ 16525 ⌝ }
+{
+    let mut job = [0u8; 16525];
+    for i in 0..16525 {
+        job[i] = byte(n, m, grid, b, first, i);
+    }
+    job
 }

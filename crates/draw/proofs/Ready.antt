@@ -9,12 +9,11 @@ use Rattle.graph.proofs.Below.{length-table, getD-table}
 use Rattle.rules.specs.Answers.{number}
 use Rattle.rules.specs.Job.{Bytes, width, weights, checked}
 use Rattle.rules.specs.Types.{nodeAt}
-use Rattle.rules.specs.Lent.{areaShort}
+use Rattle.rules.specs.Lent.{least, areaShort}
 use Rattle.rules.specs.Purge.{Run}
 use Rattle.rules.specs.Run.{Network, phaseTwo}
 use Rattle.rules.specs.Result.{recordOf}
 use Rattle.rules.specs.Call.{found, verdict}
-use Rattle.rules.specs.Cases.{lent}
 use Rattle.rules.specs.declared.Origin.{Origin}
 use Rattle.rules.specs.declared.Origin.the-variants.{Sampled, Inferred}
 use Rattle.rules.proofs.Job.{passed-is}
@@ -22,15 +21,15 @@ use Rattle.rules.proofs.Block.{Fits16, sampledCount}
 use Rattle.types.specs.State.{nodesIn}
 use Rattle.records.specs.Records.{OriginFits, kindAt}
 use Rattle.result.specs.Written.{Ready}
+use Rattle.start.specs.declared.Ended.{Ended}
 use Rattle.run.specs.Network.{networkIn}
 use Rattle.run.specs.Ran.{Ran, runAnswer}
-use Rattle.run.specs.declared.Ended.{Ended}
 use Rattle.run.proofs.Once.{settles, ran-few}
 use Rattle.found.proofs.Result.{numbers-fit, few-rounds, block-short}
 use Rattle.draw.proofs.Verdicts.{ran-found}
 
 -- The least memory is long enough.
-least-enough : areaShort lent ≡ false
+least-enough : areaShort least ≡ false
 unfolding areaShort
 least-enough = refl
 
@@ -53,8 +52,8 @@ module _ {job states : Bytes} {area : List ℕ} {n cells : ℕ} {r : Ended}
   pub told : networkIn (width job) states area (r .held) ≡ net
   told = ran .network ran-done end (settles job ran-done .1)
 
-  least : verdict lent job ≡ found net
-  least = ran-found lent job least-enough pass ran-done end (settles job ran-done .1)
+  drawn : verdict least job ≡ found net
+  drawn = ran-found least job least-enough pass ran-done end (settles job ran-done .1)
 
   module _ where
     abbrev t : ℕ
@@ -82,7 +81,7 @@ module _ {job states : Bytes} {area : List ℕ} {n cells : ℕ} {r : Ended}
     few = ran-few ran done;
     states-fit = omega (arith, ran .states-size);
     cells-fit = omega (arith, ran .area-size);
-    origins-fit = λ k h. rw (← origin-at k h) (origin-fits (nodeAt (net .types) k .origin) (k - sampledCount net) (numbers-fit lent job net least .record-fits k (rw type-count h)));
-    rounds-fit = omega (arith, rounds-are, few-rounds lent job net least);
-    room = rw told (omega (arith, block-short lent job net least));
+    origins-fit = λ k h. rw (← origin-at k h) (origin-fits (nodeAt (net .types) k .origin) (k - sampledCount net) (numbers-fit least job net drawn .record-fits k (rw type-count h)));
+    rounds-fit = omega (arith, rounds-are, few-rounds least job net drawn);
+    room = rw told (omega (arith, block-short least job net drawn));
   }

@@ -1,4 +1,5 @@
 pub mod Below
+pub mod Spread
 pub mod Walks
 pub mod Spans
 pub mod Links

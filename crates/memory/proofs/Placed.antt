@@ -7,8 +7,8 @@ use native.Mathlib.Numerals.{add-one}
 use native.Mathlib.Omega.{arith}
 use lib.ListN.{length, take, drop, set, getD, replicate, length-append, length-drop, length-replicate, replicate-append-replicate, take-append-drop, drop-of-length-le}
 use lib.Seq.{length-take-le, take-suc, drop-cons, set-at, append-snoc, take-at, take-append-le, take-take, drop-append-add, drop-drop, getD-take, getD-drop}
-use Rattle.graph.specs.Below.{table, gather}
-use Rattle.graph.proofs.Below.{length-table, table-more, gather-more}
+use Rattle.graph.specs.Below.{table}
+use Rattle.graph.proofs.Below.{length-table, table-more}
 use Rattle.rules.specs.Call.{padded}
 use Rattle.rules.proofs.Block.{Stands, stands-getD}
 use Rattle.memory.specs.Placed.{placed}
@@ -85,11 +85,6 @@ module _ {A : Type 0} where
   pub placed-whole : (b xs : List A) → length xs ≡ length b → placed b 0 xs ≡ xs
   unfolding placed
   placed-whole b xs e = rw (drop-of-length-le b {i = 0 + length xs} (omega arith)) (append-nil xs)
-
--- Lists one behind the other: one more, at the place behind k of them.
-pub gathered-more : {A : Type 0} (f : ℕ → List A) (b : List A) (at k place : ℕ) {now after : List A} → at ≤ length b → at + length (gather k f) ≡ place →
-    now ≡ placed b at (gather k f) → after ≡ placed now place (f k) → after ≡ placed b at (gather (k + 1) f)
-gathered-more f b at k place room e written more = rw (more, written, gather-more) (placed-twice b (gather k f) at room place (f k) e)
 
 -- One store more behind what stands at the front.
 front-more : (b now xs : List ℕ) (i v : ℕ) → length xs ≡ i → i < length b → now ≡ placed b 0 xs → set now i v ≡ placed b 0 (xs ++ (v ∷ []))

@@ -7,7 +7,7 @@ use Rattle.graph.specs.Below.{table}
 use Rattle.graph.proofs.Below.{table-ext, table-getD}
 use Rattle.rules.specs.Job.{Bytes, width}
 use Rattle.rules.specs.Lent.{Lent}
-use Rattle.rules.specs.Call.{verdict, written, resultAfter, padded}
+use Rattle.rules.specs.Call.{verdict, written, resultAfter}
 use Rattle.memory.specs.Placed.{placed}
 use Rattle.memory.proofs.Placed.{placed-padded}
 use Rattle.rules.specs.declared.Answer.{Answer}
@@ -47,8 +47,8 @@ called {job} {result} {states} {result′} {distances} {links} {links″} a s d 
       served = record {
         answered = w .answered;
         result-left = result-after (lentBy result states distances links) job result′ (w .result-is);
-        states-left = s ∙ ap (λ n. replicate n 0) (a .sizes .states-size);
-        distances-left = d ∙ ap (λ n. replicate n 0) (a .sizes .distances-size);
+        states-left = s ∙ ap (λ n. replicate n 0) (a .states-size);
+        distances-left = d ∙ ap (λ n. replicate n 0) (a .distances-size);
         links-left = no-records (length links) links″ l;
       };
       table-left = l;

@@ -24,11 +24,12 @@ module _ (job result states : Bytes) (distances : List ℕ) (links : ℕ) where
   -- One of checks 1 to 7 refuses.
   pub answered-first : number first ≢ 0 → Answered job result states distances links first result states distances
   answered-first n = record {
-    sizes = record { states-size = refl; distances-size = refl };
+    states-size = refl;
+    distances-size = refl;
     wrote = wrote-nothing lent job result first (first-verdict lent job n);
   }
 
   -- None of them does.
   pub answered-drawn : {result′ states′ : Bytes} {distances′ : List ℕ} {r : Answer} → number first ≡ 0 →
       Drawn job result states distances r result′ states′ distances′ → Answered job result states distances links r result′ states′ distances′
-  answered-drawn z d = record { sizes = d .sizes; wrote = d .wrote lent (first-passed lent job z .0) }
+  answered-drawn z d = record { states-size = d .ran .states-size; distances-size = d .ran .area-size; wrote = d .wrote lent (first-passed lent job z .0) }

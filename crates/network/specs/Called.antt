@@ -10,7 +10,7 @@ use Rattle.rules.specs.Call.{Served}
 use Rattle.rules.specs.declared.Answer.{Answer}
 use Rattle.rules.specs.declared.Link.{Link}
 use Rattle.areas.specs.Areas.{lengths}
-use Rattle.draw.specs.Drawn.{SameLengths, Wrote}
+use Rattle.draw.specs.Drawn.{Wrote}
 
 -- The lengths lent. The link table is lent as numbers, three to a record.
 abbrev pub lentBy : Bytes → Bytes → List ℕ → List ℕ → Lent
@@ -25,7 +25,7 @@ pub record Called (job result states : Bytes) (distances links : List ℕ) (r : 
   pub table-left : links′ ≡ replicate (length links) 0
 
 -- The job is answered: what is written and what keeps its length, before the work areas are cleared.
-
 pub record Answered (job result states : Bytes) (distances : List ℕ) (links : ℕ) (r : Answer) (result′ states′ : Bytes) (distances′ : List ℕ) : Type 0 where
-  pub sizes : SameLengths states distances states′ distances′
+  pub states-size : length states′ ≡ length states
+  pub distances-size : length distances′ ≡ length distances
   pub wrote : Wrote (lengths (length result) (length states) (length distances) links) job result r result′

@@ -1,5 +1,3 @@
-pub mod Places
-pub mod Staying
 pub mod Told
 pub mod Once
 pub mod Purging

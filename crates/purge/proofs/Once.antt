@@ -28,11 +28,12 @@ use Rattle.retire.specs.Left.{Chosen, isKept}
 use Rattle.retire.proofs.Kept.{kept-gather}
 use Rattle.retire.proofs.Laid.{partedRows, parted-wide, parted-laid}
 use Rattle.links.specs.Marks.{Tells}
-use Rattle.purge.specs.Stay.{staying, Stays, Once}
+use Rattle.stay.specs.Stay.{staying, Stays}
+use Rattle.purge.specs.Once.{Once}
 use Rattle.purge.specs.Holds.{Holds}
 use Rattle.state.specs.declared.Held.{Held}
-use Rattle.purge.specs.declared.Stay.{Stay}
-use Rattle.purge.proofs.Places.{stays-chosen, stays-kept}
+use Rattle.stay.specs.declared.Stay.{Stay}
+use Rattle.stay.proofs.Places.{stays-chosen, stays-kept}
 use Rattle.purge.proofs.Told.{staying-is}
 
 pub current-few : {m : ℕ} {ws : List ℕ} {run : Run} {states : Bytes} {area : List ℕ} {held : Held} → Holds m ws run states area held →

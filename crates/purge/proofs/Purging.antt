@@ -13,12 +13,13 @@ use Rattle.retire.specs.Left.{Chosen, parted}
 use Rattle.retire.proofs.Parted.{parted-size}
 use Rattle.links.specs.Marks.{Tells}
 use Rattle.state.specs.State.{epsilonOf}
-use Rattle.purge.specs.Stay.{staying, Stays, Once, Surveyed}
+use Rattle.stay.specs.Stay.{staying, Stays}
+use Rattle.purge.specs.Once.{Once, Surveyed}
 use Rattle.purge.specs.Holds.{Holds, Purged}
 use Rattle.state.specs.declared.Held.{Held}
-use Rattle.purge.specs.declared.Stay.{Stay}
-use Rattle.purge.proofs.Places.{stays-chosen}
-use Rattle.purge.proofs.Staying.{stayIn}
+use Rattle.stay.specs.declared.Stay.{Stay}
+use Rattle.stay.proofs.Places.{stays-chosen}
+use Rattle.stay.proofs.Staying.{stayIn}
 use Rattle.purge.proofs.Told.{survey-holds, survey-tells, fewer-stay, all-stay}
 use Rattle.purge.proofs.Once.{once-holds}
 

@@ -1,2 +1,2 @@
-pub mod Stay
+pub mod Once
 pub mod Holds

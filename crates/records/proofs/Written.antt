@@ -12,8 +12,9 @@ use Rattle.rules.specs.Result.{words, recordOf}
 use Rattle.rules.specs.declared.Kind.{Kind}
 use Rattle.rules.proofs.Job.{part-table}
 use Rattle.rules.proofs.Block.{length-words, length-parts, three-numbers}
-use Rattle.memory.specs.Placed.{placed}
-use Rattle.memory.proofs.Placed.{placed-none, placed-twice, gathered-more}
+use Rattle.memory.specs.Placed.{placed, Follows}
+use Rattle.memory.proofs.Placed.{placed-none, placed-twice}
+use Rattle.memory.proofs.Follows.{follows-once, follows-more}
 use Rattle.types.specs.State.{rowIn}
 use Rattle.records.specs.Records.{kindAt, recordsOf, rowsFrom}
 
@@ -41,7 +42,7 @@ module _ (kinds : List Kind) (s : ℕ) where
         after ≡ placed now (at + 6 * k) (words (recordOf (kindAt kinds k .origin) index)) → after ≡ placed b at (recordsOf kinds (k + 1) s)
     unfolding recordsOf
     records-more k index room e written more =
-        gathered-more _ b at k (at + 6 * k) room (omega (arith, length-records k)) written (rw e at more)
+        follows-more _ k (record { is = written; behind = omega (arith, length-records k) }) room (follows-once (rw e at more)) .is
 
 -- ── Rows ──
 
@@ -66,10 +67,10 @@ module _ (m : ℕ) (states : Bytes) (s : ℕ) where
         after ≡ placed now (at + (k - s) * m) (take (64 * k + m - 64 * k) (drop (64 * k) states)) →
         after ≡ placed b at (rowsFrom m states s (k + 1 - s))
     unfolding rowsFrom rowIn
-    rows-more k l room within written more =
+    rows-more k {now} {after} l room within written more =
         let width : 64 * k + m - 64 * k ≡ m = omega arith in
         let number : s + (k - s) ≡ k = omega arith in
         let next : k + 1 - s ≡ k - s + 1 = omega arith in
-        rw next
-        (gathered-more (λ i. rowIn m states (s + i)) b at (k - s) (at + (k - s) * m) room (omega (arith, length-rowsFrom (k - s))) written
-        (rw (number, ← part-table states (64 * k) m within) (rw width at more)))
+        let before : Follows b at (rowsFrom m states s (k - s)) now (at + (k - s) * m) = record { is = written; behind = omega (arith, length-rowsFrom (k - s)) } in
+        let row : after ≡ placed now (at + (k - s) * m) (rowIn m states (s + (k - s))) = rw (number, ← part-table states (64 * k) m within) (rw width at more) in
+        rw next (follows-more (λ i. rowIn m states (s + i)) (k - s) before room (follows-once row) .is)

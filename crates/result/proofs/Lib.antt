@@ -1,4 +1,3 @@
 pub mod Lines
 pub mod Once
 pub mod Parts
-pub mod Spread

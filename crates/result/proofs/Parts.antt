@@ -27,7 +27,7 @@ use Rattle.run.specs.Network.{linksIn, networkIn}
 use Rattle.result.specs.Lines.{lineOf, linesOf}
 use Rattle.result.specs.Written.{Written}
 use Rattle.memory.proofs.Follows.{placed-before, follows-on}
-use Rattle.result.proofs.Spread.{spread-gather, spread-kept}
+use Rattle.graph.proofs.Spread.{spread-gather, spread-kept}
 
 -- The offset of the links is small.
 pub links-short : {t m : ℕ} (s : ℕ) → t ≤ 128 → m ≤ 64 → linksOffset t s m ≤ 8976

@@ -20,7 +20,8 @@ use Rattle.rules.proofs.Window.{ascending-few, in-window, stored-ascends}
 use Rattle.types.specs.State.{stored, laid}
 use Rattle.links.specs.Marks.{Tells}
 use Rattle.state.specs.declared.Held.{Held}
-use Rattle.candidates.specs.Candidate.{Candidate, InWindow, All, Fresh}
+use Rattle.sweep.specs.Candidate.{Candidate}
+use Rattle.candidates.specs.Fresh.{InWindow, All, Fresh}
 use Rattle.candidates.specs.declared.Added.{Added}
 use Rattle.rounds.specs.Rounded.{Carries, Crowded}
 use Rattle.rounds.proofs.Faithful.{current-wide, faithful}

@@ -18,7 +18,7 @@ use Rattle.distances.proofs.Measured.{measured}
 use Rattle.state.specs.declared.Held.{Held}
 use Rattle.purge.proofs.Told.{rows-count}
 use Rattle.purge.proofs.Once.{current-few}
-use Rattle.candidates.specs.Candidate.{Faithful}
+use Rattle.sweep.specs.Candidate.{Faithful}
 use Rattle.rounds.specs.Rounded.{Carries}
 use Rattle.rounds.proofs.Lying.{wide-front, lies-made, lies-current}
 

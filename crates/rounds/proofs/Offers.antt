@@ -28,7 +28,7 @@ use Rattle.purge.proofs.Once.{current-few}
 use Rattle.medians.proofs.Stored.{stored-medians, stored-connection}
 use Rattle.triplets.specs.declared.Triplet.{Triplet}
 use Rattle.search.specs.Swept.{Gives}
-use Rattle.candidates.specs.Candidate.{IsTriplet, Candidate}
+use Rattle.sweep.specs.Candidate.{IsTriplet, Candidate}
 use Rattle.rounds.specs.Rounded.{Carries}
 use Rattle.rounds.proofs.Faithful.{current-count, stored-row, stored-current, current-wide}
 

@@ -14,7 +14,7 @@ use Rattle.rules.specs.Run.{fresh}
 use Rattle.links.specs.Marks.{Tells}
 use Rattle.state.specs.State.{epsilonOf}
 use Rattle.state.specs.declared.Held.{Held}
-use Rattle.candidates.specs.Candidate.{Fresh}
+use Rattle.candidates.specs.Fresh.{Fresh}
 use Rattle.candidates.specs.declared.Added.{Added}
 use Rattle.rounds.specs.Grown.{Grew}
 use Rattle.rounds.specs.Rounded.{Carries, Grows, Rounded}

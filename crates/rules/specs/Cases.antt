@@ -7,7 +7,7 @@ use Prim.Native.String.{String}
 use lib.ListN.{length, getD}
 use Rattle.graph.specs.Below.{gather}
 use Rattle.rules.specs.Job.{Bytes, width, weights, jobRows}
-use Rattle.rules.specs.Lent.{Lent}
+use Rattle.rules.specs.Lent.{least}
 use Rattle.rules.specs.Types.{sameRow}
 use Rattle.rules.specs.Links.{linksAt, linked}
 use Rattle.rules.specs.Result.{words}
@@ -20,10 +20,6 @@ job rows ws e =
     let n = length rows in
     let m = length ws in
     words (n ∷ m ∷ e ∷ 12 ∷ (12 + 2 * m) ∷ (12 + 2 * m + n * m) ∷ []) ++ words ws ++ gather n (λ k. text (getD rows k ""))
-
--- The least memory that may be lent.
-abbrev pub lent : Lent
-lent = record { result = 57680; states = 8192; distances = 16384; links = 8128 }
 
 infix 2 _prints_ _writes_
 pub data Case : Type 0 where
@@ -39,8 +35,8 @@ same true b = b
 same false b = not b
 
 unfoldable pub holds : Case → Bool
-holds (b prints s) = sameRow (printed lent b) (text s)
-holds (b writes xs) = sameRow (written (width b) (verdict lent b)) xs
+holds (b prints s) = sameRow (printed least b) (text s)
+holds (b writes xs) = sameRow (written (width b) (verdict least b)) xs
 holds (links b e i j x) = same x (linked (linksAt (weights b) e (jobRows b)) i j)
 
 unfoldable pub all-hold : List Case → Bool

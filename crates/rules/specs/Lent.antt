@@ -10,6 +10,10 @@ pub record Lent : Type 0 where
   pub distances : ℕ
   pub links : ℕ
 
+-- The least that may be lent.
+abbrev pub least : Lent
+least = record { result = 57680; states = 8192; distances = 16384; links = 8128 }
+
 -- A lent area is shorter than 57,680 bytes, 8,192 bytes, 16,384 numbers or 8,128 records.
 unfoldable pub areaShort : Lent → Bool
 areaShort lent = ltb (lent .result) 57680 || ltb (lent .states) 8192 || ltb (lent .distances) 16384 || ltb (lent .links) 8128

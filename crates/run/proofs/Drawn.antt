@@ -16,7 +16,7 @@ use Rattle.rules.specs.Types.{rowsOf}
 use Rattle.rules.specs.Distance.{apart}
 use Rattle.rules.specs.Links.{linksAt}
 use Rattle.rules.specs.Purge.{Run, purge}
-use Rattle.rules.specs.Run.{Network, phaseTwo}
+use Rattle.rules.specs.Run.{phaseTwo}
 use Rattle.rules.specs.declared.Link.{Link}
 use Rattle.distances.specs.Area.{cellAt, Measures}
 use Rattle.links.specs.Marks.{marked, Tells}

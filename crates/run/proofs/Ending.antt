@@ -15,9 +15,9 @@ use Rattle.state.specs.State.{secondPhase}
 use Rattle.purge.specs.Holds.{Holds, Purged}
 use Rattle.state.specs.declared.Held.{Held}
 use Rattle.rounds.specs.declared.Turn.{Turn}
+use Rattle.start.specs.Begun.{refusedWith}
+use Rattle.start.specs.declared.Ended.{Ended}
 use Rattle.run.specs.Phases.{PhaseOneOver, Kept, PhasesOver}
-use Rattle.run.specs.Network.{refusedWith}
-use Rattle.run.specs.declared.Ended.{Ended}
 
 -- An outcome is one of two: a round that had no room, by its number, or a run.
 abbrev had-no-room : Outcome → Bool

@@ -14,9 +14,9 @@ use Rattle.rules.specs.Purge.{Run}
 use Rattle.rules.specs.Run.{Outcome, settled, full}
 use Rattle.rules.specs.Call.{outcome}
 use Rattle.purge.proofs.Back.{holds-one}
+use Rattle.start.specs.declared.Ended.{Ended}
 use Rattle.run.specs.Phases.{Kept}
 use Rattle.run.specs.Ran.{Ran, runAnswer}
-use Rattle.run.specs.declared.Ended.{Ended}
 use Rattle.run.proofs.Ending.{kept-few, types-few}
 
 -- Where neither TYPES nor ROOM is given, Phase I settled in a run.

@@ -1,20 +1,16 @@
--- The network as memory holds it, and a refused run.
+-- The network as memory holds it.
 use mathlib.Core.Bool.{_&&_}
 use mathlib.Core.List.{List}
 use Prim.Native.Nat.{ℕ}
 use lib.Dec.{ltb}
-use lib.ListN.{replicate}
 use Rattle.graph.specs.Below.{gather, only}
 use Rattle.rules.specs.Job.{Bytes}
 use Rattle.rules.specs.Run.{Network}
-use Rattle.rules.specs.declared.Answer.{Answer}
 use Rattle.rules.specs.declared.Link.{Link}
-use Rattle.types.specs.State.{blank, nodesIn}
+use Rattle.types.specs.State.{nodesIn}
 use Rattle.distances.specs.Area.{cellAt}
 use Rattle.links.specs.Marks.{marked}
 use Rattle.state.specs.declared.Held.{Held}
-use Rattle.state.specs.declared.Phase.the-variants.{Two}
-use Rattle.run.specs.declared.Ended.{Ended}
 
 -- The links of n types: those marked, with the distances in the area.
 unfoldable pub linksIn : ℕ → List ℕ → List Link
@@ -26,11 +22,4 @@ networkIn m states area held = record {
   types = nodesIn m (held .state .types) states (held .kinds);
   links = linksIn (held .state .types) area;
   rounds = held .state .rounds;
-}
-
--- A refused run leaves nothing.
-abbrev pub refusedWith : Answer → Ended
-refusedWith a = record {
-  answer = a;
-  held = record { state = record { types = 0; made = 0; rounds = 0; phase = Two }; kinds = replicate 128 blank };
 }

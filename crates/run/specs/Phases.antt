@@ -3,7 +3,7 @@ use mathlib.Core.Path.{_≡_}
 use mathlib.Core.Bool.{true, false}
 use mathlib.Core.List.{List, []}
 use Prim.Native.Nat.{ℕ, _+_, _≤_, _<_}
-use lib.ListN.{length, replicate}
+use lib.ListN.{length}
 use Rattle.rules.specs.Job.{Bytes}
 use Rattle.rules.specs.Types.{rowsOf}
 use Rattle.rules.specs.Purge.{Run, purge}
@@ -18,8 +18,8 @@ use Rattle.state.specs.declared.Held.{Held}
 use Rattle.state.specs.declared.Phase.the-variants.{Two}
 use Rattle.rounds.specs.Rounded.{Carries, Grows, Crowded}
 use Rattle.rounds.specs.declared.Turn.{Turn}
-use Rattle.run.specs.Network.{refusedWith}
-use Rattle.run.specs.declared.Ended.{Ended}
+use Rattle.start.specs.Begun.{refusedWith, Cleared}
+use Rattle.start.specs.declared.Ended.{Ended}
 
 -- Nothing that the code does can go out of bounds.
 pub record Safe (weights : List ℕ) (states : Bytes) (area : List ℕ) (held : Held) : Type 0 where
@@ -69,10 +69,6 @@ pub record Kept (m : ℕ) (ws : List ℕ) (end : Run) (states : Bytes) (area : L
   pub tells : Tells ws 0 (rowsOf (purge ws 0 end .current)) area
   pub few : r .held .state .made ≤ 128
   pub second : r .held .state .phase ≡ Two
-
-pub record Cleared (states : Bytes) (area : List ℕ) (lent cells : ℕ) : Type 0 where
-  pub states-are : states ≡ replicate lent 0
-  pub area-is : area ≡ replicate cells 0
 
 pub record PhasesOver (weights : List ℕ) (states : Bytes) (area : List ℕ) (held : Held) (states′ : Bytes) (area′ : List ℕ) (r : Ended) : Type 0 where
   pub states-size : length states′ ≡ length states

@@ -7,24 +7,17 @@ ghost use lib.ListN.{length};
 ghost use Rattle.rules.specs.Answers.{number};
 ghost use Rattle.rules.specs.Job.{checked};
 ghost use Rattle.run.specs.Phases.{Safe, Turned, PhaseOneOver, PhasesOver};
-ghost use Rattle.run.specs.Network.{refusedWith};
 ghost use Rattle.run.specs.Ran.{Ran};
-use distances::measure;
+use job::header_of;
 use memory::clear_bytes;
 use memory::clear_words;
 use rounds::Turn;
 use rounds::round;
 use rules::Answer;
+use start::Ended;
+use start::begin;
+use start::refused;
 use state::Held;
-use state::Phase;
-use state::State;
-use types::no_kinds;
-
-// How a run ends: refused for want of room (or of types), or with the state of its last purge.
-pub struct Ended {
-    pub answer: Answer,
-    pub held: Held,
-}
 
 // Links at epsilon, purge at epsilon, then a round.
 fn turn(states: &mut [u8], area: &mut [u16], weights: &[u16], held: Held) -> Turn
@@ -46,25 +39,6 @@ fn phase_one(states: &mut [u8], area: &mut [u16], weights: &[u16], held: Held) -
         now = turn(states, area, weights, next);
     }
     now
-}
-
-// A refused run leaves nothing.
-fn refused(answer: Answer) -> Ended
-    ensures { λ r. ⌜ r ≡ refusedWith answer ⌝ }
-{
-    let kinds = no_kinds();
-    Ended {
-        answer,
-        held: Held {
-            state: State {
-                types: 0,
-                made: 0,
-                rounds: 0,
-                phase: Phase::Two,
-            },
-            kinds,
-        },
-    }
 }
 
 // Phase I, or no room in one of its rounds; and Phase II: links and purge at epsilon 0.
@@ -99,29 +73,13 @@ pub fn run(job: &[u8], states: &mut [u8], area: &mut [u16]) -> Ended
     requires { ⌜ (number (checked (now job)) ≡ 0) × (8192 ≤ length (now states)) × (16384 ≤ length (now area)) ⌝ }
     ensures { λ r. ⌜ Ran (now (job .entry)) (length (now (states .entry))) (length (now (area .entry))) (now (states .exit)) (now (area .exit)) r ⌝ }
 {
-    clear_bytes(states);
-    clear_words(area);
-    let header = job::header_of(job);
-    let sample = sample::collapse(job, states, header.rows, header.width);
-    let answer = sample.answer;
-    if let Answer::Types { place: _ } = answer {
-        clear_bytes(states);
-        return refused(answer);
-    }
+    let header = header_of(job);
     let weights = job::weights(job, header.width);
-    let types = sample.types;
-    measure(states, area, &weights, 0, types);
-    let kinds = sample.kinds;
-    let held = Held {
-        state: State {
-            types,
-            made: types,
-            rounds: 0,
-            phase: Phase::One {
-                epsilon: header.epsilon,
-            },
-        },
-        kinds,
-    };
+    let first = begin(job, states, area, &weights);
+    let answer = first.answer;
+    if let Answer::Types { place: _ } = answer {
+        return first;
+    }
+    let held = first.held;
     phases(states, area, &weights, held)
 }

@@ -1,4 +1,3 @@
 pub mod Sweeping
 pub mod Taking
 pub mod Considering
-pub mod Visiting

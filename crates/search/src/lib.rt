@@ -1,5 +1,5 @@
-// The room of the search: the median vectors of one triplet are looked at, either for lambda, the least cost of any candidate, or to
-// gather all candidates below a cost. It reads the state area; the rows found lie behind each other in memory of their own.
+// The room of the search: a median vector of a triplet is looked at, either for lambda, the least cost of any candidate, or to gather
+// all candidates below a cost. It reads the state area; the rows found lie behind each other in memory of their own.
 
 ghost use mathlib.Core.Path.{_≡_};
 ghost use Prim.Native.Nat.{_+_, _*_, _≤_, _<_};
@@ -7,11 +7,9 @@ ghost use lib.ListN.{length};
 ghost use Rattle.distances.specs.Area.{Weighed};
 ghost use Rattle.search.specs.Search.{forLambda, forAll, lowered, filled, withOne, taken, foundAfter, Inside};
 ghost use Rattle.search.specs.Swept.{Gives, IsMedian, GivesRow, Swept};
-use known::alike;
 use known::guessed;
 use known::known;
 use medians::connection;
-use medians::medians;
 use memory::copy;
 use triplets::Triplet;
 
@@ -95,7 +93,7 @@ fn take(found: &mut [u8], search: Search, row: &[u8; 64], cost: usize) -> Search
 }
 
 // One median vector of a triplet. Most are known, and most of those are guessed; the cost is asked for only if the guess is wrong.
-fn consider(
+pub fn consider(
     states: &[u8],
     weights: &[u16],
     found: &mut [u8],
@@ -120,30 +118,4 @@ fn consider(
         return search;
     }
     take(found, search, row, cost)
-}
-
-// The median vectors of a triplet. Where the first two are equal, all three are.
-pub fn visit(
-    states: &[u8],
-    weights: &[u16],
-    found: &mut [u8],
-    guesses: &mut [u8],
-    search: Search,
-    t: Triplet,
-) -> Search
-    requires { ⌜ Weighed (now weights) × Inside (now states) search t × (length (now found) ≡ 8192) × (length (now guesses) ≡ 4096) ⌝ }
-    ensures { λ r. ⌜ (length (now (guesses .exit)) ≡ 4096)
-        × Swept (Gives (now (weights .entry)) (now (states .entry)) (search .made) t) (Gives (now (weights .entry)) (now (states .entry)) (search .made) t)
-        (now (found .entry)) search (now (found .exit)) r ⌝ }
-{
-    let rows = medians(states, t.u, t.v, t.w);
-    let first = rows[0];
-    let second = rows[1];
-    let third = rows[2];
-    let one = consider(states, weights, found, guesses, search, t, &first);
-    if alike(&first, &second) {
-        return one;
-    }
-    let two = consider(states, weights, found, guesses, one, t, &second);
-    consider(states, weights, found, guesses, two, t, &third)
 }

@@ -9,7 +9,7 @@ use lib.ListN.{length, replicate, length-append, length-replicate}
 use borrow.Author.Tests.{eq-eqb, ne-eqb, le-leb}
 use Rattle.rules.specs.Answers.{number}
 use Rattle.rules.specs.Job.{Bytes, word, checked}
-use Rattle.rules.specs.Lent.{Lent}
+use Rattle.rules.specs.Lent.{Lent, least}
 use Rattle.rules.specs.Run.{Network}
 use Rattle.rules.specs.Call.{Verdict, refused, found, verdict, answer, padded, resultAfter}
 use Rattle.rules.specs.Text.{printed}
@@ -21,7 +21,7 @@ use Rattle.text.specs.Printed.{printedUsed, textRoom, textOf, printedAs, printe
 use Rattle.text.specs.declared.Printed.{Printed}
 use Rattle.text.specs.declared.Printed.the-variants.{Done, Room}
 use Rattle.network.specs.Called.{lentBy, Called}
-use Rattle.service.specs.Served.{printedIn, ServedText, least, shown, TextOnly}
+use Rattle.service.specs.Served.{printedIn, ServedText, shown, TextOnly}
 
 module _ (lent : Lent) (job : Bytes) where
   pub text-is : textOf job (resultAfter lent job) (answer lent job) ≡ printed lent job

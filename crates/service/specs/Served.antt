@@ -6,13 +6,12 @@ use Prim.Native.Nat.{ℕ, _≤_}
 use lib.Dec.{ltb}
 use lib.ListN.{length}
 use Rattle.rules.specs.Job.{Bytes}
-use Rattle.rules.specs.Lent.{Lent}
+use Rattle.rules.specs.Lent.{least}
 use Rattle.rules.specs.Call.{answer, padded}
 use Rattle.rules.specs.Text.{printed}
 use Rattle.text.specs.Printed.{textRoom, printedBytes}
 use Rattle.text.specs.declared.Printed.{Printed}
 use Rattle.text.specs.declared.Printed.the-variants.{Done, Room}
-use Rattle.areas.specs.Areas.{lengths}
 use Rattle.network.specs.Called.{lentBy, Called}
 
 -- A text in memory of some length: there is room for every text, or nothing is written.
@@ -25,9 +24,6 @@ pub record ServedText (job result states : Bytes) (distances links : List ℕ) (
   pub left : out′ ≡ padded (length out) (printedBytes r (printed (lentBy result states distances links) job))
 
 -- The text alone, of a call with the least memory that may be lent: nothing where there is no room for every text.
-abbrev pub least : Lent
-least = lengths 57680 8192 16384 8128
-
 abbrev pub shown : ℕ → Bytes → Bytes
 shown lent xs = cond (ltb lent textRoom) [] xs
 

@@ -1,16 +1,17 @@
 -- Laws of State.antt: what stands where in the state area, what a store leaves, and that types are read back as they were stored.
 use mathlib.Core.Path.{_≡_, refl, sym, ap, ap₂, _∙_}
 use mathlib.Core.Logic.{_≢_}
-use mathlib.Core.Bool.{Bool, true, false, _&&_}
+use mathlib.Core.Bool.{Bool, _&&_}
 use mathlib.Core.List.{List, [], _∷_, _++_, map-append}
 use Prim.Native.Nat.{ℕ, zero, suc, _+_, _*_, _-_, _≤_, _<_}
 use native.Mathlib.Decide.{ℕ-discrete}
 use native.Mathlib.Omega.{arith}
 use lib.Dec.{eqb}
 use lib.ListN.{length, getD, take, drop, set, replicate, length-append, length-drop, length-set, length-map, length-replicate, getD-replicate, List·getD-append, List·getD-map}
-use lib.Seq.{length-take-le, getD-take, getD-drop, getD-append-seam, getD-append-add, getD-set-same, getD-set-other, map-set-same, ext-getD}
+use lib.Seq.{length-take-le, getD-take, getD-drop, getD-append-seam, getD-set-same, getD-set-other, map-set-same, ext-getD}
 use Rattle.graph.specs.Below.{gather, given, only, first}
-use Rattle.graph.proofs.Below.{gather-add, gather-ext, table-ext, length-table, getD-table, table-getD, first-is, first-le, first-before, first-hits}
+use Rattle.graph.proofs.Below.{table-ext, length-table, getD-table, table-getD, first-is, first-le, first-before, first-hits}
+use Rattle.graph.proofs.Spread.{spread-append, spread-kept}
 use Rattle.rules.specs.Job.{Bytes, Row}
 use Rattle.rules.specs.Types.{Node, rowAt, nodeAt, rowsOf, sameRow}
 use Rattle.rules.specs.declared.Kind.{Kind}
@@ -65,11 +66,7 @@ OfWidth m rs = (i : ℕ) → i < length rs → length (rowAt rs i) ≡ m
 -- No rows, rows behind others, and one row more.
 pub laid-both : (xs ys : List Row) → laid (xs ++ ys) ≡ laid xs ++ laid ys
 unfolding laid
-laid-both xs ys =
-    let f : ℕ → Bytes = λ i. stored (rowAt (xs ++ ys) i) in
-    let front = gather-ext (length xs) f (λ i. stored (rowAt xs i)) (λ i h. rw (List·getD-append xs ys [] i h)) in
-    let rear = gather-ext (length ys) (λ i. f (length xs + i)) (λ i. stored (rowAt ys i)) (λ i h. rw (getD-append-add xs ys i [])) in
-    rw (length-append, gather-add (length xs) (length ys) f, front, rear)
+laid-both xs ys = spread-append stored [] xs ys
 
 pub laid-append : (rs : List Row) (r : Row) → laid (rs ++ (r ∷ [])) ≡ laid rs ++ stored r
 unfolding laid gather
@@ -80,15 +77,9 @@ unfolding laid gather
 laid-none b = placed-none b 0
 
 -- Rows chosen by a test.
-laid-only : (t : Bool) (r : Row) → laid (only t r) ≡ given t (stored r)
-unfolding laid gather
-laid-only true r = refl
-laid-only false r = refl
-
 pub laid-gather : (n : ℕ) (p : ℕ → Bool) (f : ℕ → Row) → laid (gather n (λ k. only (p k) (f k))) ≡ gather n (λ k. given (p k) (stored (f k)))
-unfolding gather
-laid-gather zero p f = laid-only false []
-laid-gather (suc n) p f = rw (laid-both, laid-gather n p f, laid-only)
+unfolding laid
+laid-gather n p f = spread-kept stored [] n p f
 
 -- Rows of one width, at most 64, in the state area.
 module _ (m : ℕ) (rs : List Row) (small : m ≤ 64) (wide : OfWidth m rs) where

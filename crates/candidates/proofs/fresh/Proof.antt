@@ -9,7 +9,7 @@ use Rattle.rules.specs.Job.{Bytes}
 use Rattle.search.specs.Search.{forLambda, forAll}
 use Rattle.search.specs.Swept.{Swept}
 use Rattle.search.specs.declared.Search.{Search}
-use Rattle.candidates.specs.Candidate.{Candidate, Everywhere}
+use Rattle.sweep.specs.Candidate.{Candidate, Everywhere}
 use Rattle.candidates.proofs.Chosen.{fresh-none, fresh-full, fresh-all}
 use Rattle.candidates.proofs.fresh.Statement.{statement}
 use Rattle.candidates.proofs.fresh.Tie as tie

@@ -1,0 +1,4 @@
+pub mod Visiting
+pub mod Dropped
+pub mod Walk
+pub mod Seated

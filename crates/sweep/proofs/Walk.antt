@@ -1,0 +1,199 @@
+-- The walk through the triplets: at a type c, the types linked with it are met one after the other. What is asked for up to the next
+-- one is what was asked for up to this one, and what is met here.
+use mathlib.Core.Path.{_≡_, sym, _∙_}
+use mathlib.Core.Logic.{_⊎_, inl, inr, ⊎-elim}
+use mathlib.Core.Bool.{true, false, false≢true}
+use mathlib.Core.List.{List}
+use Prim.Native.Nat.{ℕ, _+_, _*_, _≤_, _<_, min, max}
+use native.Mathlib.Decide.{decLt}
+use native.Mathlib.Omega.{arith}
+use lib.Dec.{eqb}
+use lib.ListN.{length, getD}
+use borrow.Author.Tests.{ne-eqb}
+use Rattle.rules.specs.Job.{Bytes}
+use Rattle.links.specs.Marks.{marked}
+use Rattle.triplets.specs.Followers.{Follower, Followers}
+use Rattle.triplets.specs.Triplet.{inOrder, canMatter}
+use Rattle.triplets.specs.declared.Triplet.{Triplet}
+use Rattle.search.specs.declared.Search.{Search}
+use Rattle.search.specs.Search.{Inside}
+use Rattle.search.specs.Swept.{Gives, Swept}
+use Rattle.search.proofs.Sweeping.{Rows, swept-none, swept-more, swept-as, swept-at}
+use Rattle.sweep.specs.Candidate.{IsTriplet, Candidate, Faithful, WithFirst, AtCentre, Everywhere, Ready}
+use Rattle.sweep.proofs.Dropped.{dropped}
+
+-- A walk has come to a type that is linked with c, from `start` on, or to n.
+pub record Walk (area : List ℕ) (n c start at : ℕ) : Type 0 where
+  pub on : start ≤ at
+  pub within : at ≤ n
+  pub linked : at < n → marked area c at ≡ true
+
+-- The first type linked with c, and the next one, where they stand in the table.
+module _ {area next : List ℕ} {n : ℕ} (follows : Followers area n next) (c : ℕ) (h : c < n) where
+  pub follower-first : Follower area n c 0 (getD next (129 * c) 0)
+  follower-first = let e : 129 * c ≡ 129 * c + 0 = omega arith in rw e (follows .each c 0 h (omega arith))
+
+  pub follower-next : (i : ℕ) → i < n → Follower area n c (i + 1) (getD next (129 * c + i + 1) 0)
+  follower-next i l = let e : 129 * c + i + 1 ≡ 129 * c + (i + 1) = omega arith in rw e (follows .each c (i + 1) h (omega arith))
+
+module _ {area : List ℕ} {n c : ℕ} where
+  pub walk-first : {start at : ℕ} → Follower area n c start at → Walk area n c start at
+  walk-first f = record { on = f .from; within = f .within; linked = f .linked }
+
+  pub walk-next : {start at next : ℕ} → Walk area n c start at → Follower area n c (at + 1) next → Walk area n c start next
+  walk-next w f = record { on = omega (arith, w .on, f .from); within = f .within; linked = f .linked }
+
+  -- A type that is linked with c is none of those passed over.
+  not-passed : {i at : ℕ} → Follower area n c i at → (k : ℕ) → marked area c k ≡ true → k < at → k < i
+  not-passed {i} f k linked h = elim (decLt k i) [
+    | yes l ↦ l
+    | no other ↦ absurd (false≢true (sym (f .none-between k (omega arith) h) ∙ linked))
+  ]
+
+-- What is met at a type c with two others.
+abbrev pub Here : List ℕ → Bytes → List ℕ → ℕ → ℕ → ℕ → ℕ → ℕ → Rows
+Here ws states area n made c a b x cost =
+    Faithful ws states area n × ((c < a) ⊎ (marked area a b ≡ false)) × Gives ws states made (inOrder c a b) x cost
+
+-- What is asked for up to the next type is asked for up to this one, or at this one.
+module _ {ws : List ℕ} {states : Bytes} {area : List ℕ} {n made c : ℕ} {x : Bytes} {cost : ℕ} where
+  which-centre : Everywhere ws states area n made (c + 1) x cost → Everywhere ws states area n made c x cost ⊎ AtCentre ws states area n made c n x cost
+  which-centre k = elim (decLt (k .c) c) [
+    | yes h ↦ inl (record { c = k .c; within = h; rest = k .rest })
+    | no other ↦ let e : k .c ≡ c = omega (arith, k .within) in inr (rw e at (k .rest))
+  ]
+
+  which-first : {a to : ℕ} → Follower area n c (a + 1) to → AtCentre ws states area n made c to x cost →
+      AtCentre ws states area n made c a x cost ⊎ WithFirst ws states area n made c a n x cost
+  which-first {a} f k = elim (decLt (k .a) a) [
+    | yes h ↦ inl (record { a = k .a; within = h; linked = k .linked; rest = k .rest })
+    | no other ↦ let e : k .a ≡ a = omega (arith, not-passed f (k .a) (k .linked) (k .within)) in inr (rw e at (k .rest))
+  ]
+
+  which-second : {a b to : ℕ} → Follower area n c (b + 1) to → WithFirst ws states area n made c a to x cost →
+      WithFirst ws states area n made c a b x cost ⊎ Here ws states area n made c a b x cost
+  which-second {b} f k = elim (decLt (k .b) b) [
+    | yes h ↦ inl (record {
+      faithful = k .faithful;
+      b = k .b;
+      higher = k .higher;
+      within = h;
+      linked = k .linked;
+      met-here = k .met-here;
+      gives = k .gives;
+    })
+    | no other ↦
+        let e : k .b ≡ b = omega (arith, not-passed f (k .b) (k .linked) (k .within)) in
+        inr (k .faithful, rw e at (k .met-here), rw e at (k .gives))
+  ]
+
+-- The code reads the mark of two types in the line of the higher one.
+pub mark-read : (area : List ℕ) (a b : ℕ) → a < b → marked area a b ≡ eqb (getD area (128 * b + a) 0) 1
+mark-read area a b h =
+    let e : 128 * max a b + min a b ≡ 128 * b + a = omega arith in
+    rw (ne-eqb a b (omega arith), e)
+
+module _ {states : Bytes} {area ws next : List ℕ} {found₀ guesses₀ : Bytes} {n : ℕ} {s₀ : Search}
+    (ready : Ready states area ws next found₀ guesses₀ n s₀) where
+  -- What a search needs, it has after a sweep too.
+  pub still-ready : {A G : Rows} {found guesses : Bytes} {s : Search} → Swept A G found₀ s₀ found s → length guesses ≡ 4096 →
+      Ready states area ws next found guesses n s
+  still-ready a size = record {
+    weighed = ready .weighed;
+    follows = ready .follows;
+    current = rw (a .made-stays) (ready .current);
+    room = a .room;
+    lie = rw (a .made-stays) (ready .lie);
+    cells = ready .cells;
+    found-size = a .size ∙ ready .found-size;
+    guesses-size = size;
+    low = omega (arith, a .no-higher, ready .low);
+  }
+
+  -- The types of a triplet are among those made.
+  pub ready-inside : {t : Triplet} → IsTriplet area n t → Inside states s₀ t
+  ready-inside i = record {
+    u-made = omega (arith, ready .current, i .rising, i .current);
+    v-made = omega (arith, ready .current, i .rising, i .current);
+    w-made = omega (arith, ready .current, i .current);
+    room = ready .room;
+    lie = ready .lie;
+  }
+
+  -- Candidates, where this many rows are made.
+  abbrev Given : ℕ → Rows
+  Given made = Candidate ws states area n made
+
+  -- Nothing is asked for yet.
+  none-asked : {A : Rows} → ((x : Bytes) (cost : ℕ) → A x cost → ⊥) → Swept A (Given (s₀ .made)) found₀ s₀ found₀ s₀
+  none-asked none = swept-none (λ x cost k. absurd (none x cost k)) (ready .room)
+
+  -- One sweep more, which is asked for the rest.
+  one-more : {A C : Rows} (B : ℕ → Rows) {found found′ : Bytes} {s s′ : Search} →
+      Swept A (Given (s₀ .made)) found₀ s₀ found s → Swept (B (s .made)) (Given (s .made)) found s found′ s′ →
+      ((x : Bytes) (cost : ℕ) → C x cost → A x cost ⊎ B (s₀ .made) x cost) → Swept C (Given (s₀ .made)) found₀ s₀ found′ s′
+  one-more B a b which = swept-more a (swept-at B Given (a .made-stays) b) which
+
+  -- The sweep of all types.
+  pub everywhere-none : Swept (Everywhere ws states area n (s₀ .made) 0) (Given (s₀ .made)) found₀ s₀ found₀ s₀
+  everywhere-none = none-asked (λ x cost k. omega (arith, k .within))
+
+  pub everywhere-more : (c : ℕ) {found found′ : Bytes} {s s′ : Search} →
+      Swept (Everywhere ws states area n (s₀ .made) c) (Given (s₀ .made)) found₀ s₀ found s →
+      Swept (AtCentre ws states area n (s .made) c n) (Given (s .made)) found s found′ s′ →
+      Swept (Everywhere ws states area n (s₀ .made) (c + 1)) (Given (s₀ .made)) found₀ s₀ found′ s′
+  everywhere-more c a b = one-more (λ made. AtCentre ws states area n made c n) a b (λ x cost. which-centre)
+
+  -- The walk at a type c.
+  module _ (c : ℕ) where
+    pub centre-none : {at : ℕ} → Follower area n c 0 at →
+        Swept (AtCentre ws states area n (s₀ .made) c at) (Given (s₀ .made)) found₀ s₀ found₀ s₀
+    centre-none f = none-asked (λ x cost k. omega (arith, not-passed f (k .a) (k .linked) (k .within)))
+
+    pub centre-more : (a : ℕ) {to : ℕ} {found found′ : Bytes} {s s′ : Search} → Follower area n c (a + 1) to →
+        Swept (AtCentre ws states area n (s₀ .made) c a) (Given (s₀ .made)) found₀ s₀ found s →
+        Swept (WithFirst ws states area n (s .made) c a n) (Given (s .made)) found s found′ s′ →
+        Swept (AtCentre ws states area n (s₀ .made) c to) (Given (s₀ .made)) found₀ s₀ found′ s′
+    centre-more a f p q = one-more (λ made. WithFirst ws states area n made c a n) p q (λ x cost. which-first f)
+
+    -- The walk with a type a.
+    module _ (a : ℕ) where
+      pub first-none : {at : ℕ} → Follower area n c (a + 1) at →
+          Swept (WithFirst ws states area n (s₀ .made) c a at) (Given (s₀ .made)) found₀ s₀ found₀ s₀
+      first-none f = none-asked (λ x cost k. omega (arith, k .higher, not-passed f (k .b) (k .linked) (k .within)))
+
+      -- It comes to a type b, and its triplet is skipped, dropped or visited.
+      module _ {b to : ℕ} {found : Bytes} {s : Search} (follows : Follower area n c (b + 1) to)
+          (so-far : Swept (WithFirst ws states area n (s₀ .made) c a b) (Given (s₀ .made)) found₀ s₀ found s) where
+        first-more : {found′ : Bytes} {s′ : Search} →
+            Swept (Here ws states area n (s .made) c a b) (Given (s .made)) found s found′ s′ →
+            Swept (WithFirst ws states area n (s₀ .made) c a to) (Given (s₀ .made)) found₀ s₀ found′ s′
+        first-more q = one-more (λ made. Here ws states area n made c a b) so-far q (λ x cost. which-second follows)
+
+        -- It is met at type a.
+        pub first-skipped : a ≤ c → marked area a b ≡ true →
+            Swept (WithFirst ws states area n (s₀ .made) c a to) (Given (s₀ .made)) found₀ s₀ found s
+        first-skipped h e =
+            first-more (swept-none
+            (λ x cost k. ⊎-elim (λ l. absurd (omega arith)) (λ f. absurd (false≢true (sym f ∙ e))) (k .1))
+            (so-far .room))
+
+        module _ {t : Triplet} (is : t ≡ inOrder c a b) (triplet : IsTriplet area n t) where
+          -- It cannot matter.
+          pub first-dropped : canMatter area t (s .below) ≡ false →
+              Swept (WithFirst ws states area n (s₀ .made) c a to) (Given (s₀ .made)) found₀ s₀ found s
+          first-dropped e =
+              let lie : 64 * s .made ≤ length states = rw (so-far .made-stays) (ready .lie) in
+              let inside : t .w < s .made = rw (so-far .made-stays) (ready-inside triplet .w-made) in
+              first-more (swept-none
+              (λ x cost k.
+              let gives : Gives ws states (s .made) t x cost = rw is (k .2) in
+              inl (dropped (ready .weighed) lie (triplet .rising) inside (k .0) (triplet .current) gives (s .below) e))
+              (so-far .room))
+
+          -- It is visited, and what it gives is a candidate.
+          pub first-visited : {found′ : Bytes} {s′ : Search} →
+              Swept (Gives ws states (s .made) t) (Gives ws states (s .made) t) found s found′ s′ →
+              Swept (WithFirst ws states area n (s₀ .made) c a to) (Given (s₀ .made)) found₀ s₀ found′ s′
+          first-visited q =
+              first-more (swept-as (λ x cost k. rw is (k .2)) (λ x cost g. record { triplet = t; is-triplet = triplet; gives = g }) q)

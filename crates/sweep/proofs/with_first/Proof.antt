@@ -1,0 +1,187 @@
+-- `sweep::with_first` meets its contract: what the triplets with the types passed give is swept. Each next type's triplet is met
+-- elsewhere, cannot matter, or is visited.
+use mathlib.Core.Path.{_≡_, sym, _∙_}
+use mathlib.Core.Logic.{⊎-elim}
+use Prim.Native.Nat.{_+_, _*_, _-_}
+use native.Mathlib.Omega.{arith}
+use lib.ListN.{length, getD}
+use Rattle.search.specs.Swept.{Swept}
+use Rattle.triplets.specs.Followers.{Follower}
+use Rattle.triplets.specs.Triplet.{inOrder}
+use Rattle.triplets.specs.declared.Triplet.{Triplet}
+use Rattle.sweep.specs.Candidate.{IsTriplet, Candidate, WithFirst, Ready}
+use Rattle.sweep.proofs.Seated.{met-triplet}
+use Rattle.sweep.proofs.Walk.{Walk, walk-first, walk-next, follower-next, mark-read, still-ready, ready-inside, first-none, first-skipped, first-dropped, first-visited}
+use borrow.Author.Tests.{not-false}
+use Rattle.sweep.proofs.with_first.Statement.{statement}
+use Rattle.sweep.proofs.with_first.Tie as tie
+
+abbrev Inv-loop : tie.InvT-loop
+Inv-loop states area weights next found₀ guesses₀ n c a now₀ b₀ found guesses now b =
+    Walk area n c (a + 1) b
+    × (length guesses ≡ 4096)
+    × Swept (WithFirst weights states area n (now₀ .made) c a b) (Candidate weights states area n (now₀ .made)) found₀ now₀ found now
+
+abbrev μ-loop : tie.MeasureT-loop
+μ-loop states area weights next found₀ guesses₀ n c a now₀ b₀ found guesses now b = n - b
+
+-- The function's start, what a search needs now, the next type's follower, and the triplet met.
+abbrev start : tie.At-loop Inv-loop μ-loop → tie.Start Inv-loop μ-loop
+start c = c .before .before .before .before .before .before .before .before
+
+ready : (c : tie.At-loop Inv-loop μ-loop) →
+    let s = start c .args in
+    Ready (s .states .now) (s .area .now) (s .weights .now) (s .next .now) (c .loop .found) (c .loop .guesses) (s .n) (c .loop .now)
+ready c = still-ready (start c .pre .0) (c .loop .inv .2) (c .loop .inv .1)
+
+follower : (c : tie.In-loop Inv-loop μ-loop) →
+    let s = start (c .before) .args in
+    let b = c .before .loop .b in
+    Follower (s .area .now) (s .n) (s .c) (b + 1) (getD (s .next .now) (129 * s .c + b + 1) 0)
+follower c = let s = start (c .before) in follower-next (s .pre .0 .follows) (s .args .c) (s .pre .1) (c .before .loop .b) (c .loop-test .taken)
+
+triplet : (c : tie.In-loop Inv-loop μ-loop) (t : Triplet) →
+    let s = start (c .before) .args in t ≡ inOrder (s .c) (s .a) (c .before .loop .b) → IsTriplet (s .area .now) (s .n) t
+triplet c t is =
+    let s = start (c .before) in
+    let w = c .before .loop .inv .0 in
+    let h = c .loop-test .taken in
+    rw is (met-triplet (s .args .c) (s .args .a) (c .before .loop .b) (s .pre .3) (w .linked h) (omega (arith, w .on)) h (s .pre .1))
+
+mul-b : tie.Need-mul-b Inv-loop μ-loop
+mul-b c = omega arith
+
+add-b : tie.Need-add-b Inv-loop μ-loop
+add-b c = omega arith
+
+add-b-2 : tie.Need-add-b-2 Inv-loop μ-loop
+add-b-2 c = omega arith
+
+mul-b-2 : tie.Need-mul-b-2 Inv-loop μ-loop
+mul-b-2 c = omega arith
+
+shared-slice-read-b : tie.Need-shared-slice-read-b Inv-loop μ-loop
+shared-slice-read-b c = omega arith
+
+cast-b : tie.Need-cast-b Inv-loop μ-loop
+cast-b c = let s = c .before .before .before .before .before .before .before .args in omega (arith, c .shared-slice-known5 .given (129 * s .c + s .a + 1))
+
+loop-holds : tie.Need-loop-holds Inv-loop μ-loop
+loop-holds c =
+    let s = c .before .before .before .before .before .before .before in
+    let ready = s .pre .0 in
+    let f = follower-next (ready .follows) (s .args .c) (s .pre .1) (s .args .a) (s .pre .2) in
+    (walk-first f, ready .guesses-size, first-none ready (s .args .c) (s .args .a) f)
+
+mul-if2 : tie.Need-mul-if2 Inv-loop μ-loop
+mul-if2 c = omega arith
+
+add-if2 : tie.Need-add-if2 Inv-loop μ-loop
+add-if2 c = omega arith
+
+mul-if2-2 : tie.Need-mul-if2-2 Inv-loop μ-loop
+mul-if2-2 c = omega arith
+
+shared-slice-read-if2 : tie.Need-shared-slice-read-if2 Inv-loop μ-loop
+shared-slice-read-if2 c = omega arith
+
+in-order-requires : tie.Need-in-order-requires Inv-loop μ-loop
+in-order-requires c κs = tt
+
+can-matter-requires : tie.Need-can-matter-requires Inv-loop μ-loop
+can-matter-requires c κs =
+    let i = c .before .before in
+    let inside = ready-inside (ready (i .before)) (triplet i (c .in-order .result) (c .in-order .ensures)) in
+    omega (arith, inside, ready (i .before))
+
+visit-requires : tie.Need-visit-requires Inv-loop μ-loop
+visit-requires c κs =
+    let o = c .before .before .before .before in
+    let i = o .before .before in
+    let r = ready (i .before) in
+    (r .weighed, ready-inside r (triplet i (o .in-order .result) (o .in-order .ensures)), r .found-size, r .guesses-size)
+
+mul-b-3 : tie.Need-mul-b-3 Inv-loop μ-loop
+mul-b-3 c = omega arith
+
+add-b-3 : tie.Need-add-b-3 Inv-loop μ-loop
+add-b-3 c = omega arith
+
+add-b-4 : tie.Need-add-b-4 Inv-loop μ-loop
+add-b-4 c = omega arith
+
+mul-b-4 : tie.Need-mul-b-4 Inv-loop μ-loop
+mul-b-4 c = omega arith
+
+shared-slice-read-b-2 : tie.Need-shared-slice-read-b-2 Inv-loop μ-loop
+shared-slice-read-b-2 c = omega arith
+
+cast-b-2 : tie.Need-cast-b-2 Inv-loop μ-loop
+cast-b-2 c =
+    let i = c .before .before in
+    let s = start (i .before) .args in
+    omega (arith, c .shared-slice-known7 .given (129 * s .c + i .before .loop .b + 1))
+
+loop-less : tie.Need-loop-less Inv-loop μ-loop
+loop-less c = let f = follower (c .before .before) in omega (arith, f .from, f .within)
+
+loop-again : tie.Need-loop-again Inv-loop μ-loop
+loop-again c =
+    let i = c .before .before in
+    let l = i .before .loop in
+    let s = start (i .before) in
+    let first = s .pre .0 in
+    let f = follower i in (
+      walk-next (l .inv .0) f,
+      ⊎-elim (λ w. rw (w .12) (w .6 .ensures .0)) (⊎-elim (λ w. rw (w .5) (l .inv .1)) (λ w. rw (w .4) (l .inv .1))) (c .before .if1 .came),
+      ⊎-elim
+          (λ w. rw (w .11, w .13) (first-visited first (s .args .c) (s .args .a) f (l .inv .2) (w .1 .ensures) (triplet i _ (w .1 .ensures)) (w .6 .ensures .1)))
+          (⊎-elim
+          (λ w. rw (w .4, w .6) (first-dropped first (s .args .c) (s .args .a) f (l .inv .2) (w .1 .ensures) (triplet i _ (w .1 .ensures)) (sym (w .2 .ensures) ∙ w .3 .left)))
+          (λ w. rw (w .3, w .5) (first-skipped first (s .args .c) (s .args .a) f (l .inv .2) (w .0 .left) (mark-read (s .args .area .now) (s .args .a) (l .b) (omega (arith, l .inv .0 .on)) ∙ not-false _ (w .2 .left)))))
+          (c .before .if1 .came),
+    )
+
+same-length : tie.Need-same-length Inv-loop μ-loop
+same-length c = c .before .loop .inv .2 .size
+
+same-length-2 : tie.Need-same-length-2 Inv-loop μ-loop
+same-length-2 c = c .before .loop .inv .1 ∙ sym (start (c .before) .pre .0 .guesses-size)
+
+returns : tie.Need-returns Inv-loop μ-loop
+returns c =
+    let l = c .before .loop in
+    let e : l .b ≡ start (c .before) .args .n = omega (arith, l .inv .0 .within) in
+    (l .inv .1, rw e at (l .inv .2))
+
+pub with-first-spec : {M : Type 1} → statement M
+with-first-spec =
+    tie.close
+    (tie.spec
+    Inv-loop
+    μ-loop
+    mul-b
+    add-b
+    add-b-2
+    mul-b-2
+    shared-slice-read-b
+    cast-b
+    loop-holds
+    mul-if2
+    add-if2
+    mul-if2-2
+    shared-slice-read-if2
+    in-order-requires
+    can-matter-requires
+    visit-requires
+    mul-b-3
+    add-b-3
+    add-b-4
+    mul-b-4
+    shared-slice-read-b-2
+    cast-b-2
+    loop-less
+    loop-again
+    same-length
+    same-length-2
+    returns)

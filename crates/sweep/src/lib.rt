@@ -1,0 +1,129 @@
+// The room of the sweep: all triplets of current types are gone through, and each candidate that they give is met. It reads the state
+// area and the distance area.
+
+ghost use mathlib.Core.Path.{_≡_};
+ghost use mathlib.Core.Bool.{true};
+ghost use Prim.Native.Nat.{_<_};
+ghost use lib.ListN.{length};
+ghost use Rattle.distances.specs.Area.{Weighed};
+ghost use Rattle.links.specs.Marks.{marked};
+ghost use Rattle.search.specs.Search.{Inside};
+ghost use Rattle.search.specs.Swept.{Gives, Swept};
+ghost use Rattle.sweep.specs.Candidate.{Candidate, WithFirst, AtCentre, Everywhere, Ready};
+use known::alike;
+use medians::medians;
+use search::Search;
+use search::consider;
+use triplets::Triplet;
+use triplets::can_matter;
+use triplets::in_order;
+
+// The median vectors of a triplet. Where the first two are equal, all three are.
+fn visit(
+    states: &[u8],
+    weights: &[u16],
+    found: &mut [u8],
+    guesses: &mut [u8],
+    search: Search,
+    t: Triplet,
+) -> Search
+    requires { ⌜ Weighed (now weights) × Inside (now states) search t × (length (now found) ≡ 8192) × (length (now guesses) ≡ 4096) ⌝ }
+    ensures { λ r. ⌜ (length (now (guesses .exit)) ≡ 4096)
+        × Swept (Gives (now (weights .entry)) (now (states .entry)) (search .made) t) (Gives (now (weights .entry)) (now (states .entry)) (search .made) t)
+        (now (found .entry)) search (now (found .exit)) r ⌝ }
+{
+    let rows = medians(states, t.u, t.v, t.w);
+    let first = rows[0];
+    let second = rows[1];
+    let third = rows[2];
+    let one = consider(states, weights, found, guesses, search, t, &first);
+    if alike(&first, &second) {
+        return one;
+    }
+    let two = consider(states, weights, found, guesses, one, t, &second);
+    consider(states, weights, found, guesses, two, t, &third)
+}
+
+// The triplets of type c and two types linked with it, of which a is the lower one. Where the two are linked with each other and a
+// is below c, the triplet is met at type a.
+fn with_first(
+    states: &[u8],
+    area: &[u16],
+    weights: &[u16],
+    next: &[u16],
+    found: &mut [u8],
+    guesses: &mut [u8],
+    n: usize,
+    search: Search,
+    c: usize,
+    a: usize,
+) -> Search
+    requires { ⌜ Ready (now states) (now area) (now weights) (now next) (now found) (now guesses) n search × (c < n) × (a < n) × (marked (now area) c a ≡ true) ⌝ }
+    ensures { λ r. ⌜ (length (now (guesses .exit)) ≡ 4096)
+        × Swept (WithFirst (now (weights .entry)) (now (states .entry)) (now (area .entry)) n (search .made) c a n)
+        (Candidate (now (weights .entry)) (now (states .entry)) (now (area .entry)) n (search .made)) (now (found .entry)) search (now (found .exit)) r ⌝ }
+{
+    let mut now = search;
+    let mut b = next[129 * c + a + 1] as usize;
+    while b < n {
+        if c < a || area[128 * b + a] != 1 {
+            let t = in_order(c, a, b);
+            if can_matter(area, t, now.below) {
+                now = visit(states, weights, found, guesses, now, t);
+            }
+        }
+        b = next[129 * c + b + 1] as usize;
+    }
+    now
+}
+
+// The triplets of type c and two types linked with it.
+fn at_centre(
+    states: &[u8],
+    area: &[u16],
+    weights: &[u16],
+    next: &[u16],
+    found: &mut [u8],
+    guesses: &mut [u8],
+    n: usize,
+    search: Search,
+    c: usize,
+) -> Search
+    requires { ⌜ Ready (now states) (now area) (now weights) (now next) (now found) (now guesses) n search × (c < n) ⌝ }
+    ensures { λ r. ⌜ (length (now (guesses .exit)) ≡ 4096)
+        × Swept (AtCentre (now (weights .entry)) (now (states .entry)) (now (area .entry)) n (search .made) c n)
+        (Candidate (now (weights .entry)) (now (states .entry)) (now (area .entry)) n (search .made)) (now (found .entry)) search (now (found .exit)) r ⌝ }
+{
+    let mut now = search;
+    let mut a = next[129 * c] as usize;
+    while a < n {
+        now = with_first(states, area, weights, next, found, guesses, n, now, c, a);
+        a = next[129 * c + a + 1] as usize;
+    }
+    now
+}
+
+// All triplets.
+pub fn sweep(
+    states: &[u8],
+    area: &[u16],
+    weights: &[u16],
+    next: &[u16],
+    found: &mut [u8],
+    guesses: &mut [u8],
+    n: usize,
+    search: Search,
+) -> Search
+    requires { ⌜ Ready (now states) (now area) (now weights) (now next) (now found) (now guesses) n search ⌝ }
+    ensures { λ r. ⌜ (length (now (guesses .exit)) ≡ 4096)
+        × Swept (Everywhere (now (weights .entry)) (now (states .entry)) (now (area .entry)) n (search .made) n)
+        (Candidate (now (weights .entry)) (now (states .entry)) (now (area .entry)) n (search .made)) (now (found .entry)) search (now (found .exit)) r ⌝ }
+{
+    let mut now = search;
+    let mut c = 0;
+    while c < n {
+        now = at_centre(states, area, weights, next, found, guesses, n, now, c);
+        c += 1;
+    }
+    now
+}
