@@ -19,9 +19,9 @@ use Rattle.found.proofs.Result.{read-result}
 use Rattle.text.specs.Printed.{printedBytes}
 use Rattle.text.specs.declared.Printed.{Printed}
 use Rattle.network.proofs.Left.{zero-at}
-use Rattle.claims.specs.Drawing.{Drawn}
+use Rattle.demands.specs.Drawing.{Drawn}
 use Rattle.claims.specs.Calls.{Memory, SameLengths, lengthsOf, Calls, Serves}
-use Rattle.claims.proofs.Drawn.{drawn}
+use Rattle.demands.proofs.Drawn.{drawn}
 
 -- ── Leftovers ──
 

@@ -34,12 +34,12 @@ use Rattle.text.specs.declared.Printed.{Printed}
 use Rattle.text.proofs.Once as text
 use Rattle.service.specs.Served.{TextOnly}
 use Rattle.service.proofs.Text as service
-use Rattle.claims.specs.Drawing.{Drawn}
-use Rattle.claims.specs.Refusals.{Condition, Turn}
+use Rattle.demands.specs.Drawing.{Drawn}
+use Rattle.demands.specs.Refusals.{Condition, Turn}
 use Rattle.claims.specs.Calls.{Memory, SameLengths, lengthsOf, Calls, Serves}
 use Rattle.claims.specs.Handed.{Handed}
-use Rattle.claims.proofs.Drawn as drawing
-use Rattle.claims.proofs.Refusals as refusals
+use Rattle.demands.proofs.Drawn as drawing
+use Rattle.demands.proofs.Refusals as refusals
 use Rattle.claims.proofs.Calls as calls
 use Rattle.claims.proofs.Handed as handed
 

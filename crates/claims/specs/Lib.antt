@@ -1,4 +1,2 @@
-pub mod Drawing
-pub mod Refusals
 pub mod Calls
 pub mod Handed

@@ -19,10 +19,10 @@ use Rattle.rules.specs.declared.Origin.the-variants.{Sampled, Inferred}
 use Rattle.rules.proofs.Job.{passed-is}
 use Rattle.rules.proofs.Block.{Fits16, sampledCount}
 use Rattle.types.specs.State.{nodesIn}
+use Rattle.purge.specs.Network.{networkIn}
 use Rattle.records.specs.Records.{OriginFits, kindAt}
 use Rattle.result.specs.Written.{Ready}
 use Rattle.start.specs.declared.Ended.{Ended}
-use Rattle.run.specs.Network.{networkIn}
 use Rattle.run.specs.Ran.{Ran, runAnswer}
 use Rattle.run.proofs.Once.{settles, ran-few}
 use Rattle.found.proofs.Result.{numbers-fit, few-rounds, block-short}

@@ -9,6 +9,7 @@ use lib.Dec.{ltb}
 use lib.ListN.{length, length-append}
 use Rattle.graph.specs.Below.{gather, only, count}
 use Rattle.graph.proofs.Below.{gather-ext, length-table, getD-table, length-gather, sum-bound, count-le, count-ext, length-kept}
+use Rattle.graph.proofs.Spread.{spread-gather, spread-kept}
 use Rattle.rules.specs.Job.{Bytes}
 use Rattle.rules.specs.Types.{Node, inferred, nodeAt}
 use Rattle.rules.specs.Links.{linkAt}
@@ -17,17 +18,16 @@ use Rattle.rules.specs.declared.Kind.{Kind}
 use Rattle.rules.specs.declared.Link.{Link}
 use Rattle.rules.proofs.Block.{length-words, length-parts}
 use Rattle.memory.specs.Placed.{placed, Follows}
+use Rattle.memory.proofs.Follows.{placed-before, follows-on}
 use Rattle.types.specs.State.{rowIn, nodesIn}
 use Rattle.distances.specs.Area.{cellAt}
 use Rattle.links.specs.Marks.{marked}
 use Rattle.state.specs.declared.Held.{Held}
 use Rattle.records.specs.Records.{kindAt, sampledOf, recordsOf, rowsFrom}
 use Rattle.records.proofs.Written.{length-records, length-rowsFrom}
-use Rattle.run.specs.Network.{linksIn, networkIn}
+use Rattle.purge.specs.Network.{linksIn, networkIn}
 use Rattle.result.specs.Lines.{lineOf, linesOf}
 use Rattle.result.specs.Written.{Written}
-use Rattle.memory.proofs.Follows.{placed-before, follows-on}
-use Rattle.graph.proofs.Spread.{spread-gather, spread-kept}
 
 -- The offset of the links is small.
 pub links-short : {t m : ℕ} (s : ℕ) → t ≤ 128 → m ≤ 64 → linksOffset t s m ≤ 8976

@@ -8,7 +8,7 @@ use Rattle.rules.specs.Result.{block}
 use Rattle.memory.specs.Placed.{placed}
 use Rattle.state.specs.declared.Held.{Held}
 use Rattle.records.specs.Records.{Told}
-use Rattle.run.specs.Network.{networkIn}
+use Rattle.purge.specs.Network.{networkIn}
 
 -- The network in memory can be written: its numbers fit 16 bits, and the part lent has room for its block.
 pub record Ready (m : ℕ) (states : Bytes) (area : List ℕ) (held : Held) (out : Bytes) : Type 0 where

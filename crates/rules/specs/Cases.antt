@@ -94,7 +94,7 @@ cases =
     -- slips that the cases above do not see: lambda over all triplets
     ∷ (job ("CT" ∷ "CG" ∷ "AC" ∷ "C-" ∷ []) (852 ∷ 124 ∷ []) 0 prints "types 5 sampled 4 links 7 rounds 1\nT 0 S 1 CT\nT 1 S 1 CG\nT 2 S 1 AC\nT 3 S 1 C-\nT 4 I 1 CC\nL 0 1 124\nL 0 3 124\nL 0 4 124\nL 1 3 124\nL 1 4 124\nL 2 4 852\nL 3 4 124\n")
     -- a round that adds candidates of cost lambda alone
-    ∷ (job ("AT" ∷ "GG" ∷ "TG" ∷ "TC" ∷ "TC" ∷ []) (3 ∷ 4 ∷ []) 3 prints "types 9 sampled 4 links 18 rounds 3\nT 0 S 1 AT\nT 1 S 1 GG\nT 2 S 1 TG\nT 3 S 2 TC\nT 4 I 1 AG\nT 5 I 1 TT\nT 6 I 2 AC\nT 7 I 2 GT\nT 8 I 3 GC\nL 0 4 4\nL 0 5 3\nL 0 6 4\nL 0 7 3\nL 1 2 3\nL 1 4 3\nL 1 7 4\nL 1 8 4\nL 2 3 4\nL 2 4 3\nL 2 5 4\nL 3 5 4\nL 3 6 3\nL 3 8 3\nL 4 6 4\nL 5 7 3\nL 6 8 3\nL 7 8 4\n")
+    ∷ (job ("TC" ∷ "CA" ∷ "GG" ∷ "CG" ∷ []) (3 ∷ 4 ∷ []) 1 prints "types 6 sampled 4 links 8 rounds 1\nT 0 S 1 TC\nT 1 S 1 CA\nT 2 S 1 GG\nT 3 S 1 CG\nT 4 I 1 CC\nT 5 I 1 TG\nL 0 4 3\nL 0 5 4\nL 1 3 4\nL 1 4 4\nL 2 3 3\nL 2 5 3\nL 3 4 4\nL 3 5 3\n")
     -- a purge of types with at most one link, or at most three
     ∷ (job ("AT-C" ∷ "GATC" ∷ "GCCC" ∷ "GCA-" ∷ []) (1 ∷ 4 ∷ 6 ∷ 10 ∷ []) 1 prints "types 7 sampled 4 links 9 rounds 2\nT 0 S 1 AT-C\nT 1 S 1 GATC\nT 2 S 1 GCCC\nT 3 S 1 GCA-\nT 4 I 2 GC-C\nT 5 I 2 GCAC\nT 6 I 2 GCTC\nL 0 4 5\nL 1 6 4\nL 2 4 6\nL 2 5 6\nL 2 6 6\nL 3 5 10\nL 4 5 6\nL 4 6 6\nL 5 6 6\n")
     ∷ (job ("TC" ∷ "AA" ∷ "GC" ∷ []) (3 ∷ 3 ∷ []) 0 prints "types 4 sampled 3 links 4 rounds 1\nT 0 S 1 TC\nT 1 S 1 AA\nT 2 S 1 GC\nT 3 I 1 AC\nL 0 2 3\nL 0 3 3\nL 1 3 3\nL 2 3 3\n")

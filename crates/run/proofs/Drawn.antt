@@ -21,10 +21,10 @@ use Rattle.rules.specs.declared.Link.{Link}
 use Rattle.distances.specs.Area.{cellAt, Measures}
 use Rattle.links.specs.Marks.{marked, Tells}
 use Rattle.purge.specs.Holds.{Holds}
+use Rattle.purge.specs.Network.{linksIn, networkIn}
 use Rattle.state.specs.declared.Held.{Held}
 use Rattle.purge.proofs.Back.{current-back}
 use Rattle.purge.proofs.Told.{rows-count}
-use Rattle.run.specs.Network.{linksIn, networkIn}
 
 module _ (ws : List ℕ) (e : ℕ) (rs : List Row) {area : List ℕ} (measures : Measures ws rs area) (tells : Tells ws e rs area) where
   -- A pair is marked exactly if the rules' test finds it feasible.

@@ -12,10 +12,10 @@ use Rattle.rules.specs.Run.{Outcome, settled, full, phaseTwo}
 use Rattle.rules.specs.Call.{outcome}
 use Rattle.rules.specs.declared.Answer.{Answer}
 use Rattle.rules.specs.declared.Answer.the-variants.{Types, Room}
+use Rattle.purge.specs.Network.{networkIn}
 use Rattle.start.specs.Begun.{refusedWith, Cleared}
 use Rattle.start.specs.declared.Ended.{Ended}
 use Rattle.run.specs.Phases.{Kept}
-use Rattle.run.specs.Network.{networkIn}
 
 -- TYPES, or ROOM with the round's number, or none of the two.
 abbrev pub ranTo : Outcome → Answer

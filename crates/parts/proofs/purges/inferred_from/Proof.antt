@@ -1,7 +1,7 @@
 -- `parts::purges::inferred_from` is safe and ends: there are 128 kinds.
 use mathlib.Core.Path.{_≡_}
 use Prim.Native.Nat.{_-_}
-use lib.ListN.{length, length-set}
+use lib.ListN.{length}
 use native.Mathlib.Omega.{arith}
 use borrow.Author.Needs.{needs}
 use Rattle.parts.proofs.purges.inferred_from.Statement.{statement}

@@ -22,8 +22,8 @@ use Rattle.rules.proofs.Links.{links-at, links-order}
 use Rattle.rules.proofs.Ends.{purge-links}
 use Rattle.rules.proofs.Sound.{Sound}
 use Rattle.found.proofs.Found.{found-is, found-sound}
-use Rattle.claims.specs.Drawing.{Drawn}
-use Rattle.claims.proofs.Drawing.{listed-cheapest, network-joined}
+use Rattle.demands.specs.Drawing.{Drawn}
+use Rattle.demands.proofs.Drawing.{listed-cheapest, network-joined}
 
 -- An inferred type counts no rows.
 inferred-round : (rounds : ℕ) (o : Origin) → InferredBy rounds o → (inferred o ≡ true) × (rowCount o ≡ 0)

@@ -25,8 +25,8 @@ use Rattle.rules.proofs.Ends.{phase-same}
 use Rattle.rules.proofs.Types.{is-first, Nth, too-many, too-many-at, length-sampled, few-sampled}
 use Rattle.found.specs.Runs.{Runs}
 use Rattle.found.proofs.Found.{never-split-network, unrefused, runs-outcome}
-use Rattle.claims.specs.Refusals.{FirstOf, Outside, WrongField, weights-offset, states-offset, whole-length, bytes-lent, Type129, Condition, order, Turn}
-use Rattle.claims.proofs.Drawing.{network-joined}
+use Rattle.demands.specs.Refusals.{FirstOf, Outside, WrongField, weights-offset, states-offset, whole-length, bytes-lent, Type129, Condition, order, Turn}
+use Rattle.demands.proofs.Drawing.{network-joined}
 
 -- ── The table by its numbers ──
 

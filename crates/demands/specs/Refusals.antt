@@ -13,7 +13,7 @@ use Rattle.rules.specs.Run.{settled, full, phaseTwo}
 use Rattle.rules.specs.declared.Answer.{Answer}
 use Rattle.rules.specs.declared.Answer.the-variants.{Done, Area, Head, Rows, Width, Layout, Weight, State, Types, Room, Split}
 use Rattle.found.specs.Runs.{Runs}
-use Rattle.claims.specs.Drawing.{JoinsAll}
+use Rattle.demands.specs.Drawing.{JoinsAll}
 
 -- Of the numbers below n, p is the first of which P holds.
 pub record FirstOf (n : ℕ) (P : ℕ → Type 0) (p : ℕ) : Type 0 where

@@ -19,7 +19,7 @@ use Rattle.rules.specs.Run.{phaseTwo}
 use Rattle.rules.specs.declared.Link.{Link}
 use Rattle.rules.proofs.Distance.{apart-sym}
 use Rattle.rules.proofs.Links.{linked-in, linked-is}
-use Rattle.claims.specs.Drawing.{Listed, JoinsAll}
+use Rattle.demands.specs.Drawing.{Listed, JoinsAll}
 
 -- ── The links of any types ──
 
