@@ -13,8 +13,9 @@ use Rattle.rules.specs.Job.{Bytes, rows, width}
 use Rattle.rules.specs.Result.{linksOffset}
 use Rattle.rules.specs.Lookup.{lookup}
 use Rattle.rules.proofs.Job.{passed-is}
-use Rattle.lookup.specs.Match.{matches}
-use Rattle.lookup.proofs.Match.{Matched, matched-is, sampled-ends, inferred-ends, none-unmatched, none-past, none-sampled, found-sampled, none-inferred, found-inferred}
+use Rattle.matching.specs.Match.{matches}
+use Rattle.matching.proofs.Match.{Matched, matched-is}
+use Rattle.lookup.proofs.Rows.{sampled-ends, inferred-ends, none-unmatched, none-past, none-sampled, found-sampled, none-inferred, found-inferred}
 use Rattle.claims.specs.Handed.{t, s, placeOf, Handed}
 
 module _ (job block : Bytes) (k : ℕ) where

@@ -6,8 +6,8 @@ use native.Mathlib.Omega.{arith}
 use lib.ListN.{length}
 use borrow.Author.Tests.{leb-true}
 use Rattle.rules.specs.Job.{Bytes, word, width}
-use Rattle.lookup.specs.Match.{matches}
-use Rattle.lookup.proofs.Match.{matched-is}
+use Rattle.matching.specs.Match.{matches}
+use Rattle.matching.proofs.Match.{matched-is}
 use Rattle.listing.specs.Lines.{Legible}
 
 pub record Read (job block : Bytes) : Type 0 where

@@ -8,7 +8,7 @@ use lib.ListN.{length}
 use Rattle.graph.specs.Below.{gather}
 use Rattle.rules.specs.Job.{Bytes, word}
 use Rattle.rules.specs.Text.{text, say, typeLine, linkLine}
-use Rattle.lookup.specs.Match.{matches}
+use Rattle.matching.specs.Match.{matches}
 use Rattle.found.specs.ReadBack.{readLink, readType}
 
 -- The block's header is one of this job's width, and it holds as many links as it says, at most 8,128.

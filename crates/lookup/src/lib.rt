@@ -5,10 +5,9 @@ ghost use mathlib.Core.Path.{_≡_};
 ghost use mathlib.Core.Bool.{true};
 ghost use Prim.Native.Nat.{_+_, _≤_};
 ghost use lib.ListN.{length, take, drop};
-ghost use Rattle.rules.specs.Lookup.{typesIn, sampledTypes, headerFits, lookup};
-ghost use Rattle.lookup.specs.Match.{matches};
-use answers::tell;
-use checks::check;
+ghost use Rattle.rules.specs.Lookup.{lookup};
+ghost use Rattle.matching.specs.Match.{matches};
+use matching::block_matches;
 use memory::word_at;
 
 // m bytes from a place on.
@@ -18,42 +17,6 @@ fn part<'a>(b: &'a [u8], at: usize, m: usize) -> &'a [u8]
 {
     let end = at + m;
     &b[at..end]
-}
-
-// The header of a result block of width m, and that the block reaches to the links' offset.
-fn header_fits(block: &[u8], m: usize) -> bool
-    requires { ⌜ m ≤ 65535 ⌝ }
-    ensures { λ r. ⌜ r ≡ headerFits m (now (block .entry)) (typesIn (now (block .entry))) (sampledTypes (now (block .entry))) ⌝ }
-{
-    if block.len() < 16 {
-        return false;
-    }
-    let t = word_at(block, 0);
-    let s = word_at(block, 2);
-    if s < 1 || t < s || 128 < t {
-        return false;
-    }
-    let rows = 16 + 6 * t;
-    let links = rows + (t - s) * m;
-    if word_at(block, 4) != m
-        || word_at(block, 10) != 16
-        || word_at(block, 12) != rows
-        || word_at(block, 14) != links
-    {
-        return false;
-    }
-    links <= block.len()
-}
-
-// Whether the job passes checks 2 to 7 and the result block has a header of its width.
-pub fn block_matches(job: &[u8], block: &[u8]) -> bool
-    ensures { λ r. ⌜ r ≡ matches (now (job .entry)) (now (block .entry)) ⌝ }
-{
-    let checked = tell(check(job));
-    if checked.number != 0 {
-        return false;
-    }
-    header_fits(block, word_at(job, 2))
 }
 
 // The states of a type where job and block match.

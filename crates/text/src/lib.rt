@@ -14,7 +14,7 @@ use lines::say;
 use listing::put_head;
 use listing::put_links;
 use listing::put_types;
-use lookup::block_matches;
+use matching::block_matches;
 use memory::clear_bytes;
 use memory::word_at;
 use rules::Answer;

@@ -2,7 +2,8 @@
 use mathlib.Core.Path.{_∙_}
 use native.Mathlib.Omega.{arith}
 use borrow.Author.Needs.{needs}
-use Rattle.lookup.proofs.Match.{Matched, matched-is, sampled-ends, inferred-ends, none-past, none-sampled, found-sampled, none-inferred, found-inferred}
+use Rattle.matching.proofs.Match.{Matched, matched-is}
+use Rattle.lookup.proofs.Rows.{sampled-ends, inferred-ends, none-past, none-sampled, found-sampled, none-inferred, found-inferred}
 use Rattle.lookup.proofs.states_in.Statement.{statement}
 use Rattle.lookup.proofs.states_in.Tie as tie
 

@@ -2,7 +2,7 @@
 use mathlib.Core.Path.{sym, _∙_}
 use borrow.Author.Needs.{needs}
 use borrow.Author.Tests.{not-true, not-false}
-use Rattle.lookup.proofs.Match.{none-unmatched}
+use Rattle.lookup.proofs.Rows.{none-unmatched}
 use Rattle.lookup.proofs.states_of.Statement.{statement}
 use Rattle.lookup.proofs.states_of.Tie as tie
 

@@ -1,13 +1,13 @@
--- `lookup::header_fits` meets its contract: each test that fails is one of the header's, and behind them only its reach is left.
+-- `matching::header_fits` meets its contract: each test that fails is one of the header's, and behind them only its reach is left.
 use mathlib.Core.Path.{sym, _∙_}
 use mathlib.Core.Logic.{⊎-elim}
 use native.Mathlib.Omega.{arith}
 use borrow.Author.Needs.{needs}
 use borrow.Author.Tests.{lt-leb, ltb-true, ltb-false, le-leb}
 use Rattle.contents.proofs.Stages.{agree}
-use Rattle.lookup.proofs.Match.{no-header, agrees, differs, few-inferred}
-use Rattle.lookup.proofs.header_fits.Statement.{statement}
-use Rattle.lookup.proofs.header_fits.Tie as tie
+use Rattle.matching.proofs.Match.{no-header, agrees, differs, few-inferred}
+use Rattle.matching.proofs.header_fits.Statement.{statement}
+use Rattle.matching.proofs.header_fits.Tie as tie
 
 returns : tie.Need-returns
 returns c = rw (lt-leb 16 _ (c .if1 .taken))

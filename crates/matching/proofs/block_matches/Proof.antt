@@ -1,4 +1,4 @@
--- `lookup::block_matches` meets its contract: the job is tested first, and the block's header by the width of a job that passes.
+-- `matching::block_matches` meets its contract: the job is tested first, and the block's header by the width of a job that passes.
 use mathlib.Core.Path.{_≡_, sym, ap, _∙_}
 use native.Mathlib.Omega.{arith}
 use borrow.Author.Needs.{needs}
@@ -6,8 +6,8 @@ use borrow.Author.Tests.{eq-eqb, ne-eqb}
 use Rattle.rules.specs.Answers.{number}
 use Rattle.rules.specs.Job.{checked}
 use Rattle.rules.proofs.Job.{passed-is}
-use Rattle.lookup.proofs.block_matches.Statement.{statement}
-use Rattle.lookup.proofs.block_matches.Tie as tie
+use Rattle.matching.proofs.block_matches.Statement.{statement}
+use Rattle.matching.proofs.block_matches.Tie as tie
 
 -- The number told is that of the checks.
 told : (c : tie.After-tell) → c .tell .result .number ≡ number (checked (c .before .before .before .before .args .job .now))
