@@ -27,7 +27,7 @@ fn zero(bytes: &[u8; 60000], from: usize, words: &[u16; 60000]) -> bool {
     true
 }
 
-// A job is answered over memory as it is found. The line on the memory is missing where anything is left in it.
+// A job is answered over memory as it is found, and what is left in the memory is looked for.
 fn answer_over(
     job: &[u8],
     shown: usize,
@@ -41,6 +41,8 @@ fn answer_over(
     let told = tell(answer);
     if zero(result, told.used, distances) & zero(states, 0, links) {
         io::write_all(libc::STDOUT_FILENO, b"work memory and unused result zero\n");
+    } else {
+        io::write_all(libc::STDOUT_FILENO, b"something is left in the memory\n");
     }
 }
 

@@ -19,7 +19,7 @@ use Rattle.found.proofs.Result.{read-result}
 use Rattle.text.specs.Printed.{printedBytes}
 use Rattle.text.specs.declared.Printed.{Printed}
 use Rattle.network.proofs.Left.{zero-at}
-use Rattle.demands.specs.Drawing.{Drawn}
+use Rattle.demands.specs.Drawing.{Drawing}
 use Rattle.claims.specs.Calls.{Memory, SameLengths, lengthsOf, Calls, Serves}
 use Rattle.demands.proofs.Drawn.{drawn}
 
@@ -100,7 +100,7 @@ module _ (job : Bytes) (before after : Memory) (r : Answer) (call : Calls job be
       rw (call .served .result-left)
       (zeros-behind xs (length (before .result) - length xs) k (rw (used-written (lengthsOf before) job, ← call .served .answered) h))
 
-  pub drawn-bytes : number r ≡ 0 → Drawn job (readBack job (after .result))
+  pub drawn-bytes : number r ≡ 0 → Drawing job (readBack job (after .result))
   drawn-bytes z =
       let (net, e) = answered (lengthsOf before) job .0 (rw (call .served .answered) at z) in
       rw (call .served .result-left, read-result (lengthsOf before) job net e) (drawn (lengthsOf before) job net e)

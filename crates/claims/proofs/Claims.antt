@@ -34,7 +34,7 @@ use Rattle.text.specs.declared.Printed.{Printed}
 use Rattle.text.proofs.Once as text
 use Rattle.service.specs.Served.{TextOnly}
 use Rattle.service.proofs.Text as service
-use Rattle.demands.specs.Drawing.{Drawn}
+use Rattle.demands.specs.Drawing.{Drawing}
 use Rattle.demands.specs.Refusals.{Condition, Turn}
 use Rattle.claims.specs.Calls.{Memory, SameLengths, lengthsOf, Calls, Serves}
 use Rattle.claims.specs.Handed.{Handed}
@@ -83,7 +83,7 @@ module _ (job : Bytes) (before after : Memory) (r : Answer) (call : Calls job be
   -- ── Demand 3: what the bytes left in the result draw ──
 
   -- A link is drawn exactly if some cheapest tree over the kept types has it, and the rest of Drawing.antt.
-  pub drawn-bytes : number r ≡ 0 → Drawn job (readBack job (after .result))
+  pub drawn-bytes : number r ≡ 0 → Drawing job (readBack job (after .result))
   drawn-bytes = calls.drawn-bytes job before after r call
 
 -- ── The network behind the bytes ──
@@ -101,7 +101,7 @@ module _ (lent : Lent) (job : Bytes) where
   answered = network.answered lent job
 
   module _ (net : Network) (e : verdict lent job ≡ found net) where
-    pub drawn : Drawn job net
+    pub drawn : Drawing job net
     drawn = drawing.drawn lent job net e
 
     -- The result block read back by its own header gives the network, and the row lookup gives every type's states.

@@ -22,7 +22,7 @@ use Rattle.rules.proofs.Links.{links-at, links-order}
 use Rattle.rules.proofs.Ends.{purge-links}
 use Rattle.rules.proofs.Sound.{Sound}
 use Rattle.found.proofs.Found.{found-is, found-sound}
-use Rattle.demands.specs.Drawing.{Drawn}
+use Rattle.demands.specs.Drawing.{Drawing}
 use Rattle.demands.proofs.Drawing.{listed-cheapest, network-joined}
 
 -- An inferred type counts no rows.
@@ -63,7 +63,7 @@ module _ (job : Bytes) (run : Run) (sound : Sound (jobRows job) (width job) (pur
   three k h =
       purge-links (weights job) 0 run (length xs + k) (omega (arith, length-ts)) (rw (behind-is k) (inferred-round _ _ (behind k h) .0))
 
-  drawn-network : Drawn job (phaseTwo (weights job) run)
+  drawn-network : Drawing job (phaseTwo (weights job) run)
   unfolding phaseTwo
   drawn-network = record {
     inferred = later;
@@ -79,7 +79,7 @@ module _ (job : Bytes) (run : Run) (sound : Sound (jobRows job) (width job) (pur
     joined = network-joined (weights job) run;
   }
 
-pub drawn : (lent : Lent) (job : Bytes) (net : Network) → verdict lent job ≡ found net → Drawn job net
+pub drawn : (lent : Lent) (job : Bytes) (net : Network) → verdict lent job ≡ found net → Drawing job net
 drawn lent job net e =
     let f = found-is lent job net e in
     rw (f .left) (drawn-network job (f .run) (found-sound f))

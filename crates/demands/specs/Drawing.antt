@@ -24,7 +24,7 @@ abbrev pub JoinsAll : Network → Type 0
 JoinsAll net = (u v : ℕ) → u < length (net .types) → v < length (net .types) → Walk (Listed (net .links)) u v
 
 -- What is drawn for a job. The kept types are numbered 0, 1, .. in the order of the list.
-pub record Drawn (job : Bytes) (net : Network) : Type 0 where
+pub record Drawing (job : Bytes) (net : Network) : Type 0 where
   -- the sampled types come first, in order of first row, and every one is kept; behind them come the inferred ones
   pub inferred : List Node
   pub kept : net .types ≡ sampled (jobRows job) ++ inferred

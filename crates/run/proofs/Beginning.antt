@@ -16,11 +16,10 @@ use Rattle.rules.proofs.Job.{passed-is, length-weights, weight-within}
 use Rattle.rules.proofs.Ends.{phase-one}
 use Rattle.types.proofs.State.{length-kinds}
 use Rattle.state.specs.State.{epsilonOf}
-use Rattle.purge.proofs.Once.{current-few}
 use Rattle.rounds.specs.Rounded.{Carries}
 use Rattle.start.specs.Begun.{First, Begun}
 use Rattle.start.specs.declared.Ended.{Ended}
-use Rattle.start.proofs.Beginning.{job-weighed}
+use Rattle.start.proofs.Beginning.{job-weighed, begun-small}
 use Rattle.run.specs.Phases.{Safe, PhasesOver}
 use Rattle.run.specs.Ran.{Ran}
 use Rattle.run.proofs.Ending.{run-in, types-few}
@@ -54,13 +53,14 @@ module _ {job states₀ : Bytes} {lent cells : ℕ} {area₀ : List ℕ} {first 
     pub safe-first : epsilon job ≤ 65535 → 8192 ≤ lent → 16384 ≤ cells → Safe ws states₀ area₀ (first .held)
     safe-first fits room enough =
         let holds = begins .holds in
+        let (within, few, epsilon-fits) = begun-small b fits in
         record {
           weighed = rw weigh (job-weighed job ok);
-          within = current-few holds;
-          few = begins .few;
+          within = within;
+          few = few;
           rounds-few = omega (arith, holds .rounds-are);
           kinds-size = rw (holds .kinds-are) (length-kinds (sampled (jobRows job)));
-          epsilon-fits = rw (begins .phase-is) fits;
+          epsilon-fits = epsilon-fits;
           states-fit = rw (b .states-size) room;
           cells-fit = rw (b .area-size) enough;
         }

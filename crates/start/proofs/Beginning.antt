@@ -29,9 +29,11 @@ use Rattle.sample.specs.declared.Sample.{Sample}
 use Rattle.sample.proofs.Collapsed.{entered-all}
 use Rattle.distances.specs.Area.{Weighed, Written, New, storedApart}
 use Rattle.distances.proofs.Measured.{behind-zero}
+use Rattle.state.specs.State.{epsilonOf}
 use Rattle.state.specs.declared.Phase.the-variants.{One}
 use Rattle.purge.specs.Holds.{Holds}
 use Rattle.purge.proofs.First.{holds-first}
+use Rattle.purge.proofs.Once.{current-few}
 use Rattle.start.specs.Begun.{refusedWith, Begun}
 use Rattle.start.specs.declared.Ended.{Ended}
 
@@ -143,3 +145,12 @@ module _ (job : Bytes) {a : Answer} (answered : a ≡ (when tooMany (jobRows job
       go : (t : Bool) → OneOf others (tagOf the-type (when t refuse Types (row129 (jobRows job)) else passed)) → t ≡ false
       go true one = absurd (miss others 8 tt one)
       go false one = refl
+
+-- However a run begins, its types can be purged: there are few of them, and epsilon fits 16 bits.
+pub begun-small : {job states : Bytes} {lent cells : ℕ} {area : List ℕ} {r : Ended} → Begun job lent cells states area r → epsilon job ≤ 65535 →
+    (r .held .state .types ≤ r .held .state .made) × (r .held .state .made ≤ 128) × (epsilonOf (r .held .state .phase) ≤ 65535)
+begun-small {job} {r} b fits = go (tooMany (jobRows job)) refl
+  where
+    go : (t : Bool) → tooMany (jobRows job) ≡ t → (r .held .state .types ≤ r .held .state .made) × (r .held .state .made ≤ 128) × (epsilonOf (r .held .state .phase) ≤ 65535)
+    go true many = rw (b .refuses many .0) (omega arith, omega arith, omega arith)
+    go false few = let f = b .begins few in (current-few (f .holds), f .few, rw (f .phase-is) fits)

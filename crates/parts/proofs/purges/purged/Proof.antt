@@ -6,7 +6,7 @@ use Rattle.rules.proofs.Job.{passed-is}
 use Rattle.rules.specs.Job.{checked}
 use Rattle.rules.specs.Answers.{number}
 use Rattle.state.specs.State.{epsilonOf}
-use Rattle.parts.proofs.Safe.{begun-safe}
+use Rattle.start.proofs.Beginning.{begun-small}
 use borrow.Author.Needs.{needs}
 use Rattle.parts.proofs.purges.purged.Statement.{statement}
 use Rattle.parts.proofs.purges.purged.Tie as tie
@@ -23,7 +23,7 @@ abbrev header : tie.After-begin → tie.After-header-of
 header c = c .before .before .before .before .before
 
 small : (c : tie.After-begin) → let s = c .begin .result .held .state in (s .types ≤ s .made) × (s .made ≤ 128) × (epsilonOf (s .phase) ≤ 65535)
-small c = let e = header c .header-of .ensures in begun-safe (c .begin .ensures) (omega (arith, e .epsilon-is, e .epsilon-fits))
+small c = let e = header c .header-of .ensures in begun-small (c .begin .ensures) (omega (arith, e .epsilon-is, e .epsilon-fits))
 
 check-requires : tie.Need-check-requires
 check-requires c κs = search needs
