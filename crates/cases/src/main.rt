@@ -1,13 +1,14 @@
 // The cases of document 01 that are run: R1 to R4, rows 256 and 257, widths 64 and 65, and document 000's first example. Each job is
-// built in memory and answered twice over the same memory, which is filled with other leftovers in between. All areas are longer than
-// they need to be.
+// built in memory and answered twice over the same memory, which is filled with other leftovers in between. All areas but the
+// link table are longer than they need to be.
 mod build;
 
 ghost use Prim.Native.Nat.{_+_, _*_, _≤_};
 use crate::build::built;
 use answers::tell;
-use network::call;
 use rules::Answer;
+use rules::Link;
+use service::call_with;
 use text::text;
 
 // The first bytes of the text of an answer, less than 256.
@@ -27,6 +28,17 @@ fn zero(bytes: &[u8; 60000], from: usize, words: &[u16; 60000]) -> bool {
     true
 }
 
+// Whether no link is left in the table.
+fn empty(table: [Link; 8128]) -> bool {
+    for i in 0..8128 {
+        let link = table[i];
+        if (link.low != 0) | (link.high != 0) | (link.length != 0) {
+            return false;
+        }
+    }
+    true
+}
+
 // A job is answered over memory as it is found, and what is left in the memory is looked for.
 fn answer_over(
     job: &[u8],
@@ -34,12 +46,14 @@ fn answer_over(
     result: &mut [u8; 60000],
     states: &mut [u8; 60000],
     distances: &mut [u16; 60000],
-    links: &mut [u16; 60000],
+    table: [Link; 8128],
 ) {
-    let answer = call(job, result, states, distances, links);
+    let owned = call_with(job, result, states, distances, table);
+    let answer = owned.answer;
+    let table = owned.table;
     print_answer(job, result, answer, shown);
     let told = tell(answer);
-    if zero(result, told.used, distances) & zero(states, 0, links) {
+    if zero(result, told.used, distances) & zero(states, 0, distances) & empty(table) {
         io::write_all(libc::STDOUT_FILENO, b"work memory and unused result zero\n");
     } else {
         io::write_all(libc::STDOUT_FILENO, b"something is left in the memory\n");
@@ -50,26 +64,34 @@ fn answer_twice(job: &[u8], shown: usize) {
     let mut result = [165u8; 60000];
     let mut states = [165u8; 60000];
     let mut distances = [165u16; 60000];
-    let mut links = [165u16; 60000];
+    let dirt = Link {
+        low: 165,
+        high: 165,
+        length: 165,
+    };
     answer_over(
         job,
         shown,
         &mut result,
         &mut states,
         &mut distances,
-        &mut links,
+        [dirt; 8128],
     );
     result = [90u8; 60000];
     states = [90u8; 60000];
     distances = [90u16; 60000];
-    links = [90u16; 60000];
+    let dirt = Link {
+        low: 90,
+        high: 90,
+        length: 90,
+    };
     answer_over(
         job,
         shown,
         &mut result,
         &mut states,
         &mut distances,
-        &mut links,
+        [dirt; 8128],
     );
 }
 

@@ -2,14 +2,14 @@
 use mathlib.Core.Path.{_≡_, refl, sym, ap, _∙_}
 use mathlib.Core.Logic.{_≢_}
 use mathlib.Core.List.{_++_}
-use Prim.Native.Nat.{ℕ, _+_, _-_, _/_, _≤_}
+use Prim.Native.Nat.{ℕ, _+_, _-_, _≤_}
 use native.Mathlib.Omega.{arith}
 use lib.ListN.{length, getD, replicate}
 use lib.Seq.{getD-append-add}
 use Rattle.rules.specs.Answers.{number, used}
 use Rattle.rules.specs.Job.{Bytes, width}
 use Rattle.rules.specs.Lent.{Lent}
-use Rattle.rules.specs.Call.{Verdict, refused, found, verdict, written, answer, padded, resultAfter}
+use Rattle.rules.specs.Call.{Verdict, refused, found, verdict, written, answer, padded, resultAfter, linksAfter}
 use Rattle.rules.specs.Text.{printed}
 use Rattle.rules.specs.declared.Answer.{Answer}
 use Rattle.rules.specs.declared.Answer.the-variants.{Done, Area, Head, Rows, Width, Layout, Weight, State, Types, Room, Split}
@@ -31,7 +31,7 @@ same-lengths a b s i = record {
   result = s .result-length i;
   states = s .states-length i;
   distances = s .distances-length i;
-  links = s .links-length i / 3;
+  links = s .links-length i;
 }
 
 module _ (job : Bytes) (before before′ after after′ : Memory) (r r′ : Answer) (same : SameLengths before before′)
@@ -47,7 +47,7 @@ module _ (job : Bytes) (before before′ after after′ : Memory) (r r′ : Answ
     result = (a .served .result-left ∙ ap (λ l. resultAfter l job) lent ∙ sym (b .served .result-left)) i;
     states = (a .served .states-left ∙ ap (λ n. replicate n 0) (same .states-length) ∙ sym (b .served .states-left)) i;
     distances = (a .served .distances-left ∙ ap (λ n. replicate n 0) (same .distances-length) ∙ sym (b .served .distances-left)) i;
-    links = (a .table-left ∙ ap (λ n. replicate n 0) (same .links-length) ∙ sym (b .table-left)) i;
+    links = (a .served .links-left ∙ ap linksAfter lent ∙ sym (b .served .links-left)) i;
   }
 
 -- The same of a job that is served, over the same memory.

@@ -61,8 +61,8 @@ same-calls job before before′ after after′ r r′ s a b =
 module _ (job : Bytes) (before after : Memory) (r : Answer) (call : Calls job before r after) where
   -- All work memory is zero to its own end.
   pub work-zero : (after .states ≡ replicate (length (before .states)) 0) × (after .distances ≡ replicate (length (before .distances)) 0)
-      × (after .links ≡ replicate (length (before .links)) 0)
-  work-zero = (call .served .states-left, call .served .distances-left, call .table-left)
+      × (after .links ≡ replicate (length (before .links)) (record { low = 0; high = 0; length = 0 }))
+  work-zero = (call .served .states-left, call .served .distances-left, call .served .links-left)
 
   -- So is the result past the bytes used; a refusal uses none.
   pub past-zero : (k : ℕ) → used r ≤ k → getD (after .result) k 0 ≡ 0

@@ -7,6 +7,7 @@ use lib.ListN.{length}
 use Rattle.rules.specs.Job.{Bytes}
 use Rattle.rules.specs.Lent.{Lent}
 use Rattle.rules.specs.declared.Answer.{Answer}
+use Rattle.rules.specs.declared.Link.{Link}
 use Rattle.text.specs.declared.Printed.{Printed}
 use Rattle.network.specs.Called.{lentBy, Called}
 use Rattle.service.specs.Served.{ServedText}
@@ -16,7 +17,7 @@ pub record Memory : Type 0 where
   pub result : Bytes
   pub states : Bytes
   pub distances : List ℕ
-  pub links : List ℕ
+  pub links : List Link
 
 -- Memory of the same lengths, whatever lies in it.
 pub record SameLengths (a b : Memory) : Type 0 where

@@ -12,7 +12,7 @@ use Rattle.rules.specs.Types.{nodeAt}
 use Rattle.rules.specs.Lent.{least, areaShort}
 use Rattle.rules.specs.Purge.{Run}
 use Rattle.rules.specs.Run.{Network, phaseTwo}
-use Rattle.rules.specs.Result.{recordOf}
+use Rattle.rules.specs.Result.{recordOf, block}
 use Rattle.rules.specs.Call.{found, verdict}
 use Rattle.rules.specs.declared.Origin.{Origin}
 use Rattle.rules.specs.declared.Origin.the-variants.{Sampled, Inferred}
@@ -75,6 +75,10 @@ module _ {job states : Bytes} {area : List ℕ} {n cells : ℕ} {r : Ended}
     unfolding networkIn
     rounds-are = sym (ap (λ n. n .rounds) told)
 
+  -- Its block is short.
+  pub short : length (block (width job) (networkIn (width job) states area (r .held))) ≤ 57680
+  short = rw told (block-short least job net drawn)
+
   pub ready : (result : Bytes) → 8192 ≤ n → 16384 ≤ cells → 57680 ≤ length result → Ready (width job) states area (r .held) result
   ready result a b c = record {
     narrow = passed-is job pass .width-within .at-most;
@@ -83,5 +87,5 @@ module _ {job states : Bytes} {area : List ℕ} {n cells : ℕ} {r : Ended}
     cells-fit = omega (arith, ran .area-size);
     origins-fit = λ k h. rw (← origin-at k h) (origin-fits (nodeAt (net .types) k .origin) (k - sampledCount net) (numbers-fit least job net drawn .record-fits k (rw type-count h)));
     rounds-fit = omega (arith, rounds-are, few-rounds least job net drawn);
-    room = rw told (omega (arith, block-short least job net drawn));
+    room = omega (arith, short);
   }

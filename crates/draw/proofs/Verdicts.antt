@@ -1,11 +1,13 @@
 -- The verdict by the stages of the call: the first refusal of checks 1 to 7; then what the run answers, or its network.
-use mathlib.Core.Path.{_≡_, refl, ap, _∙_}
+use mathlib.Core.Path.{_≡_, refl, _∙_}
 use mathlib.Core.Logic.{_≢_}
 use mathlib.Core.Bool.{Bool, true, false, cond}
+use mathlib.Core.List.{List}
 use Prim.Native.Nat.{ℕ}
 use native.Mathlib.Omega.{arith}
 use lib.Dec.{eqb}
 use lib.ListN.{length}
+use Rattle.graph.specs.Below.{gather}
 use borrow.Author.Tests.{eq-eqb, ne-eqb}
 use Rattle.rules.specs.Answers.{number, when_refuse_else_, passed}
 use Rattle.rules.specs.Job.{Bytes, width, weights, jobRows, checked}
@@ -19,12 +21,15 @@ use Rattle.rules.specs.declared.Answer.{Answer}
 use Rattle.rules.specs.declared.Answer.the-variants.{Done, Area, Types}
 use Rattle.memory.specs.Placed.{placed}
 use Rattle.memory.proofs.Placed.{placed-none}
+use Rattle.purge.specs.Network.{linksIn}
+use Rattle.result.specs.Front.{front}
 use Rattle.answers.specs.Told.{firstOf}
 use Rattle.answers.proofs.First.{neither-refuses}
 use Rattle.run.specs.Ran.{runAnswer, ranTo}
 use Rattle.found.proofs.Found.{never-split-network}
 use Rattle.areas.specs.Areas.{areasAnswer}
-use Rattle.draw.specs.Drawn.{Wrote}
+use Rattle.draw.specs.Drawn.{Sketched, unsketched}
+use Rattle.draw.specs.declared.Sketch.{Sketch}
 
 -- Two tests, one behind the other.
 module _ (a b : Answer) (next : Verdict) where
@@ -80,12 +85,27 @@ module _ (lent : Lent) (job : Bytes) where
         go true m = absurd (let n : 8 ≡ 0 = m in omega arith)
         go false m = rw (never-split-network (weights job) end)
 
-  -- A refusal writes nothing; a network is written to the front of the result.
-  pub wrote-nothing : (result : Bytes) (a : Answer) → verdict lent job ≡ refused a → Wrote lent job result a result
-  unfolding answer
-  wrote-nothing result a e = record { answered = rw e; result-is = rw e (placed-none result 0) }
+  -- A refusal writes nothing; a network is written to the front of the result, and its links are still in the distance area.
+  pub wrote-nothing : (result : Bytes) (distances : List ℕ) (a : Answer) → verdict lent job ≡ refused a → Sketched lent job result (unsketched a) result distances
+  unfolding answer linksIn gather
+  wrote-nothing result distances a e = record {
+    answered = rw e;
+    result-is = rw e (placed-none result 0);
+    at-is = rw e;
+    types-are = rw e;
+    links-are = rw e;
+    count-is = rw e;
+  }
 
-  pub wrote-network : (result result′ : Bytes) (net : Network) (used : ℕ) → verdict lent job ≡ found net → used ≡ length (block (width job) net) →
-      result′ ≡ placed result 0 (block (width job) net) → Wrote lent job result (Done used) result′
+  pub wrote-network : {result result′ : Bytes} {distances : List ℕ} {r : Sketch} (net : Network) → verdict lent job ≡ found net →
+      r .answer ≡ Done (length (block (width job) net)) → result′ ≡ placed result 0 (front (width job) net) → r .at ≡ length (front (width job) net) →
+      r .types ≡ length (net .types) → linksIn (r .types) distances ≡ net .links → r .links ≡ length (net .links) → Sketched lent job result r result′ distances
   unfolding answer
-  wrote-network result result′ net used e u w = record { answered = ap Done u ∙ rw e; result-is = w ∙ rw e }
+  wrote-network net e a w at t l n = record {
+    answered = a ∙ rw e;
+    result-is = w ∙ rw e;
+    at-is = at ∙ rw e;
+    types-are = t ∙ rw e;
+    links-are = l ∙ rw e;
+    count-is = n ∙ rw e;
+  }

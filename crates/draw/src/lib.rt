@@ -1,20 +1,40 @@
-// The room of the drawing: a job that passed checks 1 to 7 is run, and its network written to the result; or 8 or 9 refuses it. It writes
-// the state area and the distance area, and the front of the result.
+// The room of the drawing: a job that passed checks 1 to 7 is run, and its network written to the result up to its links; or 8 or 9 refuses
+// it. It writes the state area and the distance area, and the front of the result.
 
 ghost use mathlib.Core.Path.{_≡_};
 ghost use Prim.Native.Nat.{_≤_};
 ghost use lib.ListN.{length};
 ghost use Rattle.rules.specs.Answers.{number};
 ghost use Rattle.rules.specs.Job.{checked};
-ghost use Rattle.draw.specs.Drawn.{Drawn};
+ghost use Rattle.draw.specs.Drawn.{unsketched, Drawn};
 use answers::tell;
 use job::header_of;
 use result::write;
 use rules::Answer;
 use run::run;
 
+// A network that lacks only its links: the answer, its types, how many links there are, and where in the result they go.
+pub struct Sketch {
+    pub answer: Answer,
+    pub types: usize,
+    pub links: usize,
+    pub at: usize,
+}
+
+// A refusal: nothing is drawn, and no link is to be written.
+pub fn nothing(answer: Answer) -> Sketch
+    ensures { λ r. ⌜ r ≡ unsketched answer ⌝ }
+{
+    Sketch {
+        answer,
+        types: 0,
+        links: 0,
+        at: 0,
+    }
+}
+
 // The network of a job that passed checks 1 to 7, run and then written; or the refusals 8 and 9.
-pub fn draw(job: &[u8], result: &mut [u8], states: &mut [u8], distances: &mut [u16]) -> Answer
+pub fn draw(job: &[u8], result: &mut [u8], states: &mut [u8], distances: &mut [u16]) -> Sketch
     requires { ⌜ (number (checked (now job)) ≡ 0) × (57680 ≤ length (now result)) × (8192 ≤ length (now states)) × (16384 ≤ length (now distances)) ⌝ }
     ensures { λ r. ⌜ Drawn (now (job .entry)) (now (result .entry)) (now (states .entry)) (now (distances .entry)) r (now (result .exit)) (now (states .exit)) (now (distances .exit)) ⌝ }
 {
@@ -22,10 +42,18 @@ pub fn draw(job: &[u8], result: &mut [u8], states: &mut [u8], distances: &mut [u
     let answer = end.answer;
     let told = tell(answer);
     if told.number != 0 {
-        return answer;
+        return nothing(answer);
     }
     let header = header_of(job);
     let held = end.held;
-    let used = write(states, distances, header.width, held, result);
-    Answer::Done { used }
+    let state = held.state;
+    let front = write(states, distances, header.width, held, result);
+    let used = front.at + 6 * front.links;
+    let answer = Answer::Done { used };
+    Sketch {
+        answer,
+        types: state.types,
+        links: front.links,
+        at: front.at,
+    }
 }

@@ -1,26 +1,15 @@
--- What is written in pieces is written as one: piece behind piece, with room for each, and last a piece in front.
+-- What is written in pieces is written as one: piece behind piece, with room for each.
 use mathlib.Core.Path.{_≡_, refl, sym, ap, _∙_}
-use mathlib.Core.List.{List, [], _++_, append-assoc}
+use mathlib.Core.List.{List, [], _++_}
 use Prim.Native.Nat.{ℕ, _+_, _-_, _≤_, _<_}
-use native.Mathlib.Nat.{add-assoc}
 use native.Mathlib.Omega.{arith}
-use lib.ListN.{length, take, drop, length-append}
-use lib.Seq.{length-take-le, drop-at}
+use lib.ListN.{length, length-append}
 use Rattle.graph.specs.Below.{gather}
 use Rattle.graph.proofs.Below.{gather-more, gather-add}
 use Rattle.memory.specs.Placed.{placed, Follows}
-use Rattle.memory.proofs.Placed.{placed-none, take-placed, placed-twice, length-placed}
+use Rattle.memory.proofs.Placed.{placed-none, placed-twice, length-placed}
 
 module _ {A : Type 0} where
-  -- Placed in front of what was placed, both are placed as one.
-  pub placed-before : (b ys : List A) (k : ℕ) → k ≤ length b → (at : ℕ) (xs : List A) → at + length xs ≡ k → placed (placed b k ys) at xs ≡ placed b at (xs ++ ys)
-  unfolding placed
-  placed-before b ys k h at xs e =
-      let rest = drop (k + length ys) b in
-      let behind : drop (at + length xs) (placed b k ys) ≡ ys ++ rest =
-      rw (e, append-assoc) (drop-at (take k b) (ys ++ rest) k (length-take-le k b h)) in
-      rw (take-placed b ys k h at (omega arith), behind, length-append, ← add-assoc, e) (simp append-assoc)
-
   pub follows-none : (b : List A) (at : ℕ) → Follows b at [] b at
   follows-none b at = record { is = placed-none b at; behind = omega arith }
 

@@ -8,9 +8,11 @@ use Rattle.rules.specs.Result.{block}
 use Rattle.memory.specs.Placed.{placed}
 use Rattle.state.specs.declared.Held.{Held}
 use Rattle.records.specs.Records.{Told}
-use Rattle.purge.specs.Network.{networkIn}
+use Rattle.purge.specs.Network.{linksIn, networkIn}
+use Rattle.result.specs.Front.{front}
+use Rattle.result.specs.declared.Front.{Front}
 
--- The network in memory can be written: its numbers fit 16 bits, and the part lent has room for its block.
+-- The network in memory can be written: its numbers fit 16 bits, and the part lent has room for its block, links and all.
 pub record Ready (m : ℕ) (states : Bytes) (area : List ℕ) (held : Held) (out : Bytes) : Type 0 where
   pub narrow : m ≤ 64
   pub few : held .state .types ≤ 128
@@ -20,7 +22,8 @@ pub record Ready (m : ℕ) (states : Bytes) (area : List ℕ) (held : Held) (out
   pub rounds-fit : held .state .rounds ≤ 65535
   pub room : length (block m (networkIn m states area held)) ≤ length out
 
--- The block stands at the front, what lay behind it is as it was, and its length is handed back.
-pub record Written (m : ℕ) (states : Bytes) (area : List ℕ) (held : Held) (out out′ : Bytes) (r : ℕ) : Type 0 where
-  pub is : out′ ≡ placed out 0 (block m (networkIn m states area held))
-  pub used : r ≡ length (block m (networkIn m states area held))
+-- The block stands at the front up to its links, and what lay behind is as it was. So many links follow, from that place on.
+pub record Written (m : ℕ) (states : Bytes) (area : List ℕ) (held : Held) (out out′ : Bytes) (r : Front) : Type 0 where
+  pub is : out′ ≡ placed out 0 (front m (networkIn m states area held))
+  pub links-are : r .links ≡ length (linksIn (held .state .types) area)
+  pub at-is : r .at ≡ length (front m (networkIn m states area held))

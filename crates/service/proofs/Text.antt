@@ -2,7 +2,7 @@
 use mathlib.Core.Path.{_≡_, refl, sym, ap, ap₂, _∙_}
 use mathlib.Core.Bool.{Bool, true, false, cond, not, _&&_}
 use mathlib.Core.List.{List, []}
-use Prim.Native.Nat.{ℕ, _+_, _*_, _/_, _≤_}
+use Prim.Native.Nat.{ℕ, _+_, _*_, _≤_}
 use native.Mathlib.Omega.{arith}
 use lib.Dec.{ltb, eqb}
 use lib.ListN.{length, replicate, length-append, length-replicate}
@@ -14,6 +14,7 @@ use Rattle.rules.specs.Run.{Network}
 use Rattle.rules.specs.Call.{Verdict, refused, found, verdict, answer, padded, resultAfter}
 use Rattle.rules.specs.Text.{printed}
 use Rattle.rules.specs.declared.Answer.{Answer}
+use Rattle.rules.specs.declared.Link.{Link}
 use Rattle.found.proofs.Found.{found-is, verdict-numbered}
 use Rattle.found.proofs.Result.{few-links, read-result, header-matches, links-counted, links-reach}
 use Rattle.listing.specs.Lines.{legible}
@@ -62,7 +63,7 @@ module _ (lent : Lent) (job : Bytes) where
   printed-as n = rw (never-block, text-is)
 
 -- The call, and the text of what it leaves.
-pub served-text : {job result states out result′ states′ out′ : Bytes} {distances links distances′ links′ : List ℕ} {r : Answer} {p : Printed} →
+pub served-text : {job result states out result′ states′ out′ : Bytes} {distances distances′ : List ℕ} {links links′ : List Link} {r : Answer} {p : Printed} →
     Called job result states distances links r result′ states′ distances′ links′ → TextLeft job result′ r (length out) out′ p →
     ServedText job result states distances links out p result′ states′ distances′ links′ out′
 served-text {job} {result} {states} {out} {result′} {distances} {links} {r} c t =
@@ -77,12 +78,15 @@ served-text {job} {result} {states} {out} {result′} {distances} {links} {r} c 
     }
 
 -- Memory of the least lengths.
-pub least-lent : lentBy (replicate 57680 0) (replicate 8192 0) (replicate 16384 0) (replicate 24384 0) ≡ least
+abbrev noLink : Link
+noLink = record { low = 0; high = 0; length = 0 }
+
+pub least-lent : lentBy (replicate 57680 0) (replicate 8192 0) (replicate 16384 0) (replicate 8128 noLink) ≡ least
 least-lent i = record {
   result = length-replicate {A = ℕ} 57680 0 i;
   states = length-replicate {A = ℕ} 8192 0 i;
   distances = length-replicate {A = ℕ} 16384 0 i;
-  links = length-replicate {A = ℕ} 24384 0 i / 3;
+  links = length-replicate 8128 noLink i;
 }
 
 -- The text, by its length.
@@ -100,7 +104,7 @@ shown-bytes lent xs = go (ltb lent textRoom)
     go true = refl
     go false = refl
 
-pub least-text : {job result states out result′ states′ out′ : Bytes} {distances links distances′ links′ : List ℕ} {r : Printed} {used : ℕ} →
+pub least-text : {job result states out result′ states′ out′ : Bytes} {distances distances′ : List ℕ} {links links′ : List Link} {r : Printed} {used : ℕ} →
     ServedText job result states distances links out r result′ states′ distances′ links′ out′ → lentBy result states distances links ≡ least →
     used ≡ printedUsed r → TextOnly job out used out′
 least-text {job} {out} {out′} {r} {used} s e u =

@@ -9,6 +9,7 @@ use Rattle.rules.specs.Job.{Bytes}
 use Rattle.rules.specs.Lent.{least}
 use Rattle.rules.specs.Call.{answer, padded}
 use Rattle.rules.specs.Text.{printed}
+use Rattle.rules.specs.declared.Link.{Link}
 use Rattle.text.specs.Printed.{textRoom, printedBytes}
 use Rattle.text.specs.declared.Printed.{Printed}
 use Rattle.text.specs.declared.Printed.the-variants.{Done, Room}
@@ -18,7 +19,7 @@ use Rattle.network.specs.Called.{lentBy, Called}
 abbrev pub printedIn : ℕ → Bytes → Printed
 printedIn lent xs = cond (ltb lent textRoom) Room (Done (length xs))
 
-pub record ServedText (job result states : Bytes) (distances links : List ℕ) (out : Bytes) (r : Printed) (result′ states′ : Bytes) (distances′ links′ : List ℕ) (out′ : Bytes) : Type 0 where
+pub record ServedText (job result states : Bytes) (distances : List ℕ) (links : List Link) (out : Bytes) (r : Printed) (result′ states′ : Bytes) (distances′ : List ℕ) (links′ : List Link) (out′ : Bytes) : Type 0 where
   pub called : Called job result states distances links (answer (lentBy result states distances links) job) result′ states′ distances′ links′
   pub answered : r ≡ printedIn (length out) (printed (lentBy result states distances links) job)
   pub left : out′ ≡ padded (length out) (printedBytes r (printed (lentBy result states distances links) job))

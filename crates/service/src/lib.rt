@@ -1,8 +1,11 @@
 // The room of the whole service: a job is answered and its answer printed into memory that is lent. What the programs do, but for reading
 // and writing.
 
+ghost use Rattle.network.specs.Called.{Called};
 ghost use Rattle.service.specs.Served.{ServedText, TextOnly};
 use network::call;
+use rules::Answer;
+use rules::Link;
 use text::Printed;
 use text::tell_text;
 use text::text;
@@ -12,13 +15,34 @@ pub fn serve(
     result: &mut [u8],
     states: &mut [u8],
     distances: &mut [u16],
-    links: &mut [u16],
+    links: &mut [Link],
     out: &mut [u8],
 ) -> Printed
     ensures { λ r. ⌜ ServedText (now (job .entry)) (now (result .entry)) (now (states .entry)) (now (distances .entry)) (now (links .entry)) (now (out .entry)) r (now (result .exit)) (now (states .exit)) (now (distances .exit)) (now (links .exit)) (now (out .exit)) ⌝ }
 {
     let answer = call(job, result, states, distances, links);
     text(job, result, answer, out)
+}
+
+// What a call over a table of its own leaves: the answer, and the table.
+pub struct Owned {
+    pub answer: Answer,
+    pub table: [Link; 8128],
+}
+
+// The call for those who have a table of their own, and get it back.
+pub fn call_with(
+    job: &[u8],
+    result: &mut [u8],
+    states: &mut [u8],
+    distances: &mut [u16],
+    table: [Link; 8128],
+) -> Owned
+    ensures { λ r. ⌜ Called (now (job .entry)) (now (result .entry)) (now (states .entry)) (now (distances .entry)) table (r .answer) (now (result .exit)) (now (states .exit)) (now (distances .exit)) (r .table) ⌝ }
+{
+    let mut table = table;
+    let answer = call(job, result, states, distances, &mut table);
+    Owned { answer, table }
 }
 
 // The same over memory of its own, of the least lengths that document 01 asks for. What is handed back is the text's length.
@@ -28,15 +52,15 @@ pub fn answer_text(job: &[u8], out: &mut [u8]) -> usize
     let mut result = [0u8; 57680];
     let mut states = [0u8; 8192];
     let mut distances = [0u16; 16384];
-    let mut links = [0u16; 24384];
-    let printed = serve(
-        job,
-        &mut result,
-        &mut states,
-        &mut distances,
-        &mut links,
-        out,
-    );
+    let none = Link {
+        low: 0,
+        high: 0,
+        length: 0,
+    };
+    let table = [none; 8128];
+    let owned = call_with(job, &mut result, &mut states, &mut distances, table);
+    let answer = owned.answer;
+    let printed = text(job, &result, answer, out);
     let told = tell_text(printed);
     told.used
 }

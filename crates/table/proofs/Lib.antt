@@ -1,0 +1,4 @@
+pub mod Bytes
+pub mod Lent
+pub mod Listed
+pub mod Record
