@@ -37,8 +37,8 @@ use Rattle.rules.specs.declared.Answer.{Answer}
 use Rattle.rules.specs.declared.Link.{Link}
 use Rattle.rules.proofs.Answer as Ans
 use Rattle.rules.proofs.Link as L
-use Rattle.walks.proofs.Lend.{Passed, entry, value, named, held, gave}
-use Rattle.walks.proofs.Told.{Told, calls-told, last-list}
+use Rattle.byhand.proofs.Lend.{Passed, entry, value, named, held, gave}
+use Rattle.byhand.proofs.Told.{Told, calls-told, last-list}
 
 abbrev pub shared : {M : Type 1} {𝓤 : URA M} {R : RattleType} → Passed R → Item 𝓤
 shared {R = R} x = ‵ (ShrSlice erased (x .lft) R .own (x .ref) (value x ∷ [])) ⊛ ‵ (flft (x .lft) (x .share))

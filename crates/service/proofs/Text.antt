@@ -15,6 +15,7 @@ use Rattle.rules.specs.Call.{Verdict, refused, found, verdict, answer, padded, 
 use Rattle.rules.specs.Text.{printed}
 use Rattle.rules.specs.declared.Answer.{Answer}
 use Rattle.rules.specs.declared.Link.{Link}
+use Rattle.ordered.specs.Order.{noLink}
 use Rattle.found.proofs.Found.{found-is, verdict-numbered}
 use Rattle.found.proofs.Result.{few-links, read-result, header-matches, links-counted, links-reach}
 use Rattle.listing.specs.Lines.{legible}
@@ -78,9 +79,6 @@ served-text {job} {result} {states} {out} {result′} {distances} {links} {r} c 
     }
 
 -- Memory of the least lengths.
-abbrev noLink : Link
-noLink = record { low = 0; high = 0; length = 0 }
-
 pub least-lent : lentBy (replicate 57680 0) (replicate 8192 0) (replicate 16384 0) (replicate 8128 noLink) ≡ least
 least-lent i = record {
   result = length-replicate {A = ℕ} 57680 0 i;

@@ -10,6 +10,7 @@ use text::Printed;
 use text::tell_text;
 use text::text;
 
+// The call, and the text of what it leaves.
 pub fn serve(
     job: &[u8],
     result: &mut [u8],
@@ -24,13 +25,13 @@ pub fn serve(
     text(job, result, answer, out)
 }
 
-// What a call over a table of its own leaves: the answer, and the table.
+// What a call with a table by value leaves: the answer, and the table.
 pub struct Owned {
     pub answer: Answer,
     pub table: [Link; 8128],
 }
 
-// The call for those who have a table of their own, and get it back.
+// The call for those who have a table of their own: it is lent to the call and handed back.
 pub fn call_with(
     job: &[u8],
     result: &mut [u8],
@@ -45,7 +46,7 @@ pub fn call_with(
     Owned { answer, table }
 }
 
-// The same over memory of its own, of the least lengths that document 01 asks for. What is handed back is the text's length.
+// A job served over memory of this function's own, of the least lengths that document 01 asks for. What is handed back is the text's length.
 pub fn answer_text(job: &[u8], out: &mut [u8]) -> usize
     ensures { λ r. ⌜ TextOnly (now (job .entry)) (now (out .entry)) r (now (out .exit)) ⌝ }
 {

@@ -1,4 +1,5 @@
 pub mod Bytes
 pub mod Lent
 pub mod Listed
+pub mod Read
 pub mod Record

@@ -77,10 +77,10 @@ use Rattle.network.proofs.call.Statement as stated
 use Rattle.network.proofs.call.Code as code
 use Rattle.network.proofs.call.Code.Mir as body
 use Rattle.network.proofs.Left.{listable, putable, called}
-use Rattle.walks.proofs.Lend.{Passed, entry, value, named, held, gave, lends, back, lends-shr, back-shr}
-use Rattle.walks.proofs.Told.{Told, tokens, parts, calls-told, last-list}
-use Rattle.walks.proofs.Walk.{Blocks, env, rooms, deaths, allocs-all, frees-all, unpack, pack}
-use Rattle.walks.proofs.Walk.{reslices, unslices, whole-arg, field-arg, number, lands-nothing}
+use Rattle.byhand.proofs.Lend.{Passed, entry, value, named, held, gave, lends, back, lends-shr, back-shr}
+use Rattle.byhand.proofs.Told.{Told, tokens, parts, calls-told, last-list}
+use Rattle.byhand.proofs.Body.{Blocks, env, rooms, deaths, allocs-all, frees-all, unpack, pack}
+use Rattle.byhand.proofs.Body.{reslices, unslices, whole-arg, field-arg, number, lands-nothing}
 
 -- ---- what is had of each parameter at exit
 abbrev bytes : Slot 5

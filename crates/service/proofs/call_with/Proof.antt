@@ -55,11 +55,11 @@ use Rattle.service.proofs.call_with.Key as key
 use Rattle.service.proofs.call_with.Statement as stated
 use Rattle.service.proofs.call_with.Code as code
 use Rattle.service.proofs.call_with.Code.Mir as body
-use Rattle.walks.proofs.Lend.{Passed, entry, value, held, gave}
+use Rattle.byhand.proofs.Lend.{Passed, entry, value, held, gave}
 use Rattle.service.proofs.Calling.{shared, Call, Left, calls-call}
-use Rattle.walks.proofs.Told.{tokens, parts}
-use Rattle.walks.proofs.Walk.{Blocks, env, rooms, deaths, allocs-all, frees-all, unpack, pack, reslices, unslices, whole-arg}
-use Rattle.walks.proofs.Whole.{on-whole, lends-whole, whole-back, big-lit}
+use Rattle.byhand.proofs.Told.{tokens, parts}
+use Rattle.byhand.proofs.Body.{Blocks, env, rooms, deaths, allocs-all, frees-all, unpack, pack, reslices, unslices, whole-arg}
+use Rattle.byhand.proofs.Whole.{on-whole, lends-whole, whole-back, big-lit}
 
 -- ---- what is had of each parameter at exit: of the job and of the table nothing
 abbrev stayed : Stays (with′.ended .signature .params) (with′.ended .kept)

@@ -52,13 +52,13 @@ use Rattle.service.proofs.serve.Key as key
 use Rattle.service.proofs.serve.Statement as stated
 use Rattle.service.proofs.serve.Code as code
 use Rattle.service.proofs.serve.Code.Mir as body
-use Rattle.walks.proofs.Lend.{Passed, entry, value, named, held, gave, lends, back}
+use Rattle.byhand.proofs.Lend.{Passed, entry, value, named, held, gave, lends, back}
 use Rattle.service.proofs.Calling.{shared, lent, Call, Left, calls-call}
-use Rattle.walks.proofs.Lend.{lends-shr, back-shr}
+use Rattle.byhand.proofs.Lend.{lends-shr, back-shr}
 use Rattle.service.proofs.Text.{served-text}
-use Rattle.walks.proofs.Together.{meet, part}
-use Rattle.walks.proofs.Told.{Told, tokens, parts, calls-told, last-list}
-use Rattle.walks.proofs.Walk.{Blocks, env, rooms, deaths, allocs-all, frees-all, unpack, pack, reslices, unslices, whole-arg}
+use Rattle.byhand.proofs.Together.{meet, part}
+use Rattle.byhand.proofs.Told.{Told, tokens, parts, calls-told, last-list}
+use Rattle.byhand.proofs.Body.{Blocks, env, rooms, deaths, allocs-all, frees-all, unpack, pack, reslices, unslices, whole-arg}
 
 -- ---- what is had of each parameter at exit: of the job nothing, and of the result the slice
 abbrev stayed : Stays (serve′.ended .signature .params) (serve′.ended .kept)

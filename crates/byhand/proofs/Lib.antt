@@ -1,8 +1,10 @@
 pub mod Again
+pub mod Body
 pub mod Lend
+pub mod Locals
 pub mod Loop
+pub mod Meets
 pub mod Shared
 pub mod Together
 pub mod Told
-pub mod Walk
 pub mod Whole

@@ -32,7 +32,7 @@ use denote.ArrayMemory.{Single, array-apart, array-whole}
 use denote.Lend.{Held, lends-slice, slice-back}
 use denote.Steps.{facts}
 use borrow.Rule.Slice.Shared.{parts-cells}
-use Rattle.walks.proofs.Lend.{Passed, value, held}
+use Rattle.byhand.proofs.Lend.{Passed, value, held}
 
 module _ (R : RattleType) (n b : ℕ) where
   abbrev pub cell : Val → Fml

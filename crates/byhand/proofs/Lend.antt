@@ -25,8 +25,8 @@ use denote.RattleType.{RattleType}
 use denote.Shadow.{pureL, pureI}
 use denote.Ref.{RefT}
 use denote.Slice.{MutSlice, ShrSlice, Room, sliceVal, finally, at-slice}
-use Rattle.walks.proofs.Again.{LentAgain, lends-again, comes-back}
-use Rattle.walks.proofs.Shared.{LentShared, lends-shared, comes-back-shared}
+use Rattle.byhand.proofs.Again.{LentAgain, lends-again, comes-back}
+use Rattle.byhand.proofs.Shared.{LentShared, lends-shared, comes-back-shared}
 
 pub record Passed (R : RattleType) : Type 0 where
   pub lft : Lft

@@ -51,12 +51,12 @@ module _ {M : Type 1} {𝓤 : URA M} where
 
 -- ---- each list, held as one
 module _ {M : Type 1} (𝓤 : URA M) (H : Heap 𝓤) (A : Atoms 𝓤) where
-  tokens⊢ : (n : ℕ) (κs : Lfts n) (qs : Shares n) → ent 𝓤 (⋆ 𝓤 H A (tokens n κs qs)) (toks 𝓤 A n κs qs)
+  pub tokens⊢ : (n : ℕ) (κs : Lfts n) (qs : Shares n) → ent 𝓤 (⋆ 𝓤 H A (tokens n κs qs)) (toks 𝓤 A n κs qs)
   tokens⊢ zero κs qs = id⊢ 𝓤 (emp 𝓤)
   tokens⊢ (suc n) κs qs =
       via 𝓤 _ (pop 𝓤 H A (‵ (flft (κs .0) (qs .0))) (tokens n (κs .1) (qs .1))) (monoR 𝓤 (A .lft (κs .0) (qs .0)) (tokens⊢ n (κs .1) (qs .1)))
 
-  ⊢tokens : (n : ℕ) (κs : Lfts n) (qs : Shares n) → ent 𝓤 (toks 𝓤 A n κs qs) (⋆ 𝓤 H A (tokens n κs qs))
+  pub ⊢tokens : (n : ℕ) (κs : Lfts n) (qs : Shares n) → ent 𝓤 (toks 𝓤 A n κs qs) (⋆ 𝓤 H A (tokens n κs qs))
   ⊢tokens zero κs qs = id⊢ 𝓤 (emp 𝓤)
   ⊢tokens (suc n) κs qs =
       via 𝓤 _ (monoR 𝓤 (A .lft (κs .0) (qs .0)) (⊢tokens n (κs .1) (qs .1))) (push 𝓤 H A (‵ (flft (κs .0) (qs .0))) (tokens n (κs .1) (qs .1)))
@@ -65,6 +65,11 @@ module _ {M : Type 1} (𝓤 : URA M) (H : Heap 𝓤) (A : Atoms 𝓤) where
   parts⊢ [] a vss = id⊢ 𝓤 (emp 𝓤)
   parts⊢ (T ∷ Ts) a vss =
       via 𝓤 _ (pop 𝓤 H A (‵ (T .own (a .0) (vss .0))) (parts Ts (a .1) (vss .1))) (monoR 𝓤 (sem 𝓤 H A (T .own (a .0) (vss .0))) (parts⊢ Ts (a .1) (vss .1)))
+
+  pub ⊢parts : (Ts : List RattleType) (a : Denots Ts) (vss : Valss Ts) → ent 𝓤 (sem 𝓤 H A (owns Ts a vss)) (⋆ 𝓤 H A (parts Ts a vss))
+  ⊢parts [] a vss = id⊢ 𝓤 (emp 𝓤)
+  ⊢parts (T ∷ Ts) a vss =
+      via 𝓤 _ (monoR 𝓤 (sem 𝓤 H A (T .own (a .0) (vss .0))) (⊢parts Ts (a .1) (vss .1))) (push 𝓤 H A (‵ (T .own (a .0) (vss .0))) (parts Ts (a .1) (vss .1)))
 
   ⊢end : {X : Type 0} (e : Exit X) (x : X) (w : Last e x) (Δ : List (Item 𝓤)) → ent 𝓤 (sep 𝓤 (sem 𝓤 H A (left e x w)) (⋆ 𝓤 H A Δ)) (⋆ 𝓤 H A (end e x w Δ))
   ⊢end unchanged x w Δ = snd∗ 𝓤 (emp 𝓤) (⋆ 𝓤 H A Δ)
