@@ -2,7 +2,6 @@
 --     env ls bs            the locals ls, in the blocks bs
 --     rooms, deaths        room for each local of an environment, and the right to free each
 --     allocs-all, frees-all     all locals are allocated, and freed
---     unpack, pack         entries of the context that are held as one
 --     reslices, unslices   `p = addrOf (s.0.*);  t = aggregate [copy p, copy s.1]`: the slice in s, once more in t; and p and t are let go
 --     whole-arg, field-arg      an operand of a call: a local, and a field of a local
 --     number               what a usize owns, which is had for nothing
@@ -24,7 +23,7 @@ use base.Fml.{Share, fat, froom, fdies}
 use prog.Memory.{fieldAt}
 use prog.Wp.{Heap, Env, Spot, spotOf, Calls, Loops}
 use ghost.Atoms.{Atoms}
-use types.Kit.{Given, Item, Goal, Post, Seq, Step, step, ‵, raw, _⊛_, mean, ⋆, push, pop, ⊢++, nth, put, runs, lands, allocs, frees, cut, _$_, by}
+use types.Kit.{Given, Item, Goal, Post, Seq, Step, step, ‵, raw, _⊛_, mean, ⋆, push, pop, ⊢++, nth, put, runs, lands, allocs, frees, _$_, by}
 use types.Kit.{move, use0, use1, use2, drop, split}
 use types.Run.{Reads, Opds, Walks, Finds, from, stop, fld, hop, addr, load, look, init, forget, and-then, no-more, assigns, land}
 use types.Run.{alloc1, alloc0, free1, free0}
@@ -53,13 +52,6 @@ deaths [] = []
 deaths (e ∷ E) = ‵ (fdies (e .0) (e .1)) ∷ deaths E
 
 module _ {M : Type 1} {𝓤 : URA M} {H : Heap 𝓤} {A : Atoms 𝓤} {K : Type 0} {W : Given 𝓤 H A} where
-  module _ {Γ : List (Item 𝓤)} {G : Goal 𝓤 H} where
-    pub unpack : K → (Δ : List (Item 𝓤)) → Step K W (Δ ++ Γ) G (raw (⋆ 𝓤 H A Δ) ∷ Γ) G
-    unpack t Δ = cut (raw (⋆ 𝓤 H A Δ) ∷ []) Δ Γ (id⊢ 𝓤 (⋆ 𝓤 H A Δ))
-
-    pub pack : K → (Δ : List (Item 𝓤)) → Step K W (raw (⋆ 𝓤 H A Δ) ∷ Γ) G (Δ ++ Γ) G
-    pack t Δ = cut Δ (raw (⋆ 𝓤 H A Δ) ∷ []) Γ (id⊢ 𝓤 (⋆ 𝓤 H A Δ))
-
   pub allocs-all : K → {ls : List Local} {Γ : List (Item 𝓤)} {Kt : Env 𝓤 H → Goal 𝓤 H}
       → ((bs : Blocks ls) → Seq K W (raw (⋆ 𝓤 H A (rooms (env ls bs))) ∷ raw (⋆ 𝓤 H A (deaths (env ls bs))) ∷ Γ) (Kt (env ls bs)))
       → Seq K W Γ (allocs ls Kt)
