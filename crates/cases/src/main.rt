@@ -1,6 +1,6 @@
-// The cases of document 01 that are run: R1 to R4, rows 256 and 257, widths 64 and 65, and document 000's first example. Each job is
-// built in memory and answered twice over the same memory, which is filled with other leftovers in between. All areas but the
-// link table are longer than they need to be.
+// The cases of document 01 that are run: R1 to R4, rows 256 and 257, widths 64 and 65, document 000's first example, and an area that is
+// too short. Each job is built in memory and answered twice over the same memory, which is filled with other leftovers in between. All areas
+// but the link table are longer than they need to be, save in the last case.
 mod build;
 
 ghost use Prim.Native.Nat.{_+_, _*_, _≤_};
@@ -18,10 +18,20 @@ fn print_answer<'a>(job: &'a [u8], result: &'a [u8], answer: Answer, shown: usiz
     io::write_all(libc::STDOUT_FILENO, &out[0..shown % 256]);
 }
 
-// Whether all bytes from a place on are zero, and all numbers.
-fn zero(bytes: &[u8; 60000], from: usize, words: &[u16; 60000]) -> bool {
-    for i in 0..60000 {
-        if (from <= i) & (bytes[i] != 0) | (words[i] != 0) {
+// Whether all bytes from a place on are zero.
+fn zero_bytes(bytes: &[u8], from: usize) -> bool {
+    for i in 0..bytes.len() {
+        if (from <= i) & (bytes[i] != 0) {
+            return false;
+        }
+    }
+    true
+}
+
+// Whether all numbers are zero.
+fn zero_words(words: &[u16]) -> bool {
+    for i in 0..words.len() {
+        if words[i] != 0 {
             return false;
         }
     }
@@ -43,9 +53,9 @@ fn empty(table: [Link; 8128]) -> bool {
 fn answer_over(
     job: &[u8],
     shown: usize,
-    result: &mut [u8; 60000],
-    states: &mut [u8; 60000],
-    distances: &mut [u16; 60000],
+    result: &mut [u8],
+    states: &mut [u8],
+    distances: &mut [u16],
     table: [Link; 8128],
 ) {
     let owned = call_with(job, result, states, distances, table);
@@ -53,7 +63,11 @@ fn answer_over(
     let table = owned.table;
     print_answer(job, result, answer, shown);
     let told = tell(answer);
-    if zero(result, told.used, distances) & zero(states, 0, distances) & empty(table) {
+    if zero_bytes(result, told.used)
+        & zero_bytes(states, 0)
+        & zero_words(distances)
+        & empty(table)
+    {
         io::write_all(libc::STDOUT_FILENO, b"work memory and unused result zero\n");
     } else {
         io::write_all(libc::STDOUT_FILENO, b"something is left in the memory\n");
@@ -119,12 +133,34 @@ fn bounds() {
     case(b"width 65\n", 1, 65, 1, 1, b'A', 12);
 }
 
+// A distance area that is one number short: check 1 refuses the job, and everything is cleared all the same.
+fn area_short(job: &[u8]) {
+    io::write_all(libc::STDOUT_FILENO, b"distance area one short\n");
+    let mut result = [165u8; 60000];
+    let mut states = [165u8; 60000];
+    let mut distances = [165u16; 16383];
+    let dirt = Link {
+        low: 165,
+        high: 165,
+        length: 165,
+    };
+    answer_over(
+        job,
+        12,
+        &mut result,
+        &mut states,
+        &mut distances,
+        [dirt; 8128],
+    );
+}
+
 // Document 000's first example: A, B, C, D, with its weights, at epsilon 0.
 fn first_example() {
     io::write_all(libc::STDOUT_FILENO, b"example 1 of document 000\n");
     let job =
         b"\x04\0\x05\0\0\0\x0c\0\x16\0\x2a\0\x01\0\x03\0\x02\0\x01\0\x02\000000110001011001101";
     answer_twice(job, 137);
+    area_short(job);
 }
 
 fn main() {

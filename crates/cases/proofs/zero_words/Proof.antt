@@ -1,29 +1,26 @@
--- `cases::zero` is safe and ends: every place is read once.
+-- `cases::zero_words` is safe and ends: every place is read once.
 use Prim.Native.Nat.{_-_, _≤_}
 use native.Mathlib.Omega.{arith}
-use Rattle.cases.proofs.zero.Statement.{statement}
-use Rattle.cases.proofs.zero.Tie as tie
+use Rattle.cases.proofs.zero_words.Statement.{statement}
+use Rattle.cases.proofs.zero_words.Tie as tie
 
 abbrev Inv-loop : tie.InvT-loop
-Inv-loop bytes from words i₀ i = i ≤ 60000
+Inv-loop words i₀ end i = i ≤ end
 
 abbrev μ-loop : tie.MeasureT-loop
-μ-loop bytes from words i₀ i = 60000 - i
+μ-loop words i₀ end i = end - i
 
 loop-holds : tie.Need-loop-holds Inv-loop μ-loop
 loop-holds c = omega arith
 
-element-copy-out-if1 : tie.Need-element-copy-out-if1 Inv-loop μ-loop
-element-copy-out-if1 c = omega arith
-
 mul-if1 : tie.Need-mul-if1 Inv-loop μ-loop
 mul-if1 c = omega arith
 
-element-copy-out-if1-2 : tie.Need-element-copy-out-if1-2 Inv-loop μ-loop
-element-copy-out-if1-2 c = omega arith
+shared-slice-read-if1 : tie.Need-shared-slice-read-if1 Inv-loop μ-loop
+shared-slice-read-if1 c = omega arith
 
 returns : tie.Need-returns Inv-loop μ-loop
-returns c = omega arith
+returns c = tt
 
 add-i : tie.Need-add-i Inv-loop μ-loop
 add-i c = omega arith
@@ -35,18 +32,17 @@ loop-again : tie.Need-loop-again Inv-loop μ-loop
 loop-again c = omega arith
 
 returns-2 : tie.Need-returns-2 Inv-loop μ-loop
-returns-2 c = omega arith
+returns-2 c = tt
 
-pub zero-spec : {M : Type 1} → statement M
-zero-spec =
+pub zero-words-spec : {M : Type 1} → statement M
+zero-words-spec =
     tie.close
     (tie.spec
     Inv-loop
     μ-loop
     loop-holds
-    element-copy-out-if1
     mul-if1
-    element-copy-out-if1-2
+    shared-slice-read-if1
     returns
     add-i
     loop-less
