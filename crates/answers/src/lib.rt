@@ -11,7 +11,7 @@ pub struct Told {
 }
 
 // A refusal has used no bytes.
-fn refusal(number: usize, place: usize) -> Told
+pub fn refusal(number: usize, place: usize) -> Told
     ensures { λ r. ⌜ (r .number ≡ number) × (r .place ≡ place) × (r .used ≡ 0) ⌝ }
 {
     Told {

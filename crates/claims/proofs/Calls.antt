@@ -65,7 +65,7 @@ same-served job before after after′ out out₁ out₂ r r′ a b =
 -- ── What a call leaves ──
 
 -- Zeros behind so many bytes.
-zeros-behind : (xs : Bytes) (n k : ℕ) → length xs ≤ k → _≡_ {A = ℕ} (getD (xs ++ replicate n 0) k 0) 0
+pub zeros-behind : (xs : Bytes) (n k : ℕ) → length xs ≤ k → _≡_ {A = ℕ} (getD (xs ++ replicate n 0) k 0) 0
 zeros-behind xs n k h =
     let e : k ≡ length xs + (k - length xs) = omega arith in
     rw e (getD-append-add xs (replicate n 0) (k - length xs) 0 ∙ zero-at n (k - length xs))

@@ -5,10 +5,11 @@ use mathlib.Core.Logic.{_↔_, _≢_}
 use mathlib.Core.List.{List, []}
 use Prim.Native.Nat.{ℕ, _≤_, _<_}
 use lib.Dec.{T}
-use lib.ListN.{length, getD, replicate}
+use lib.ListN.{length, take, getD, replicate}
+use Rattle.graph.specs.Below.{table}
 use Rattle.graph.proofs.Below.{in-at}
-use Rattle.rules.specs.Answers.{number, used}
-use Rattle.rules.specs.Job.{Bytes, width, jobRows}
+use Rattle.rules.specs.Answers.{number, used, passed}
+use Rattle.rules.specs.Job.{Bytes, width, epsilon, weights, jobRows, checked}
 use Rattle.rules.specs.Lent.{Lent}
 use Rattle.rules.specs.Types.{nodeAt, sampled}
 use Rattle.rules.specs.Purge.{Run, Purges, purge, purgeTimes}
@@ -34,13 +35,20 @@ use Rattle.text.specs.declared.Printed.{Printed}
 use Rattle.text.proofs.Once as text
 use Rattle.service.specs.Served.{TextOnly}
 use Rattle.service.proofs.Text as service
+use Rattle.alignment.specs.Answers.{madeNumber, madeUsed, ToldMade}
+use Rattle.alignment.specs.Sequences.{sequences, sequence}
+use Rattle.alignment.specs.declared.Made.{Made}
+use Rattle.fasta.specs.Turned.{Turned}
+use Rattle.fasta_service.specs.Printed.{FastaText}
 use Rattle.demands.specs.Drawing.{Drawing}
 use Rattle.demands.specs.Refusals.{Condition, Turn}
 use Rattle.claims.specs.Calls.{Memory, SameLengths, lengthsOf, Calls, Serves}
+use Rattle.claims.specs.Formed.{NotForForm}
 use Rattle.claims.specs.Handed.{Handed}
 use Rattle.demands.proofs.Drawn as drawing
 use Rattle.demands.proofs.Refusals as refusals
 use Rattle.claims.proofs.Calls as calls
+use Rattle.claims.proofs.Fasta as fasta
 use Rattle.claims.proofs.Handed as handed
 
 -- ── The P cases ──
@@ -157,6 +165,47 @@ same-told a r r′ p q i = record {
 
 pub same-told-text : (a : Printed) (r r′ : Told) → ToldText a r → ToldText a r′ → r ≡ r′
 same-told-text a r r′ p q i = record {
+  number = (p .number-is ∙ sym (q .number-is)) i;
+  place = (p .place-is ∙ sym (q .place-is)) i;
+  used = (p .used-is ∙ sym (q .used-is)) i;
+}
+
+-- ── FASTA texts (`Turned`, the contract of `make_job`; `FastaText`, that of `answer_fasta`) ──
+
+module _ (text job : Bytes) (e lent : ℕ) (r : Made) (turn : Turned text e lent job r) where
+  -- Past the bytes used the lent job is zero; a refusal uses none.
+  pub fasta-past-zero : (k : ℕ) → madeUsed r ≤ k → getD job k 0 ≡ 0
+  fasta-past-zero = fasta.past-zero turn
+
+  module _ (z : madeNumber r ≡ 0) where
+    -- A job that is made passes checks 2 to 7, so the call refuses it for none of them, whatever memory is lent.
+    pub made-passes : checked (take (madeUsed r) job) ≡ passed
+    made-passes = fasta.made-passes turn z
+
+    pub made-not-for-form : (memory : Lent) → NotForForm (answer memory (take (madeUsed r) job))
+    made-not-for-form memory = fasta.not-for-form memory (take (madeUsed r) job) made-passes
+
+    -- Its rows are the text's sequences in order; its weights are all 1; its epsilon is the one given.
+    pub made-rows : jobRows (take (madeUsed r) job) ≡ table (sequences text) (sequence text)
+    made-rows = fasta.made-rows turn z
+
+    pub made-weights : weights (take (madeUsed r) job) ≡ replicate (length (sequence text 0)) 1
+    made-weights = fasta.made-weights turn z
+
+    pub made-epsilon : epsilon (take (madeUsed r) job) ≡ e
+    made-epsilon = fasta.made-epsilon turn z
+
+-- The contracts leave no choice.
+pub same-made : (text : Bytes) (e lent : ℕ) (job job′ : Bytes) (r r′ : Made) → Turned text e lent job r → Turned text e lent job′ r′ →
+    (r ≡ r′) × (job ≡ job′)
+same-made text e lent job job′ r r′ a b = (a .answered ∙ sym (b .answered), a .left ∙ sym (b .left))
+
+pub same-fasta-text : (text : Bytes) (e : ℕ) (out out₁ out₂ : Bytes) (r r′ : ℕ) → FastaText text e out r out₁ → FastaText text e out r′ out₂ →
+    (r ≡ r′) × (out₁ ≡ out₂)
+same-fasta-text text e out out₁ out₂ r r′ a b = (a .used-is ∙ sym (b .used-is), a .left ∙ sym (b .left))
+
+pub same-told-made : (a : Made) (r r′ : Told) → ToldMade a r → ToldMade a r′ → r ≡ r′
+same-told-made a r r′ p q i = record {
   number = (p .number-is ∙ sym (q .number-is)) i;
   place = (p .place-is ∙ sym (q .place-is)) i;
   used = (p .used-is ∙ sym (q .used-is)) i;

@@ -1,3 +1,4 @@
 pub mod Calls
+pub mod Fasta
 pub mod Handed
 pub mod Claims

@@ -1,2 +1,3 @@
 pub mod Calls
+pub mod Formed
 pub mod Handed

@@ -61,7 +61,7 @@ fn is_legible(job: &[u8], block: &[u8]) -> bool
 }
 
 // A refusal is one line.
-fn put_refusal(number: usize, place: usize, out: &mut [u8]) -> usize
+pub fn put_refusal(number: usize, place: usize, out: &mut [u8]) -> usize
     requires { ⌜ 172718 ≤ length (now out) ⌝ }
     ensures { λ r. ⌜ Follows (now (out .entry)) 0 (refusalOf number place) (now (out .exit)) r ⌝ }
 {

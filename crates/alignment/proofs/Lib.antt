@@ -1,0 +1,7 @@
+pub mod Lines
+pub mod Faults
+pub mod Joined
+pub mod Counted
+pub mod Readable
+pub mod Answered
+pub mod Sizes

@@ -1,0 +1,237 @@
+// The room of a FASTA text: which of its bytes open a sequence and which are states, how long its sequences are, and the refusals 21 to 26.
+// The text is only read.
+
+ghost use mathlib.Core.Path.{_≡_};
+ghost use mathlib.Core.Bool.{true};
+ghost use Prim.Native.Nat.{_+_, _≤_, _<_};
+ghost use lib.ListN.{length, getD, replicate};
+ghost use Rattle.graph.specs.Below.{first};
+ghost use Rattle.rules.specs.Job.{outside};
+ghost use Rattle.alignment.specs.Answers.{ToldMade};
+ghost use Rattle.alignment.specs.Lines.{endsLine, lineStart, opens, isState};
+ghost use Rattle.alignment.specs.Sequences.{opened};
+ghost use Rattle.alignment.specs.Read.{AtByte, CountedTo, Taken, ReadAll, MeasuredAs};
+use answers::Told;
+use answers::refusal;
+use contents::outside;
+
+// What a text is answered: a job block of so many bytes, or the refusals in their order.
+pub enum Made {
+    Done { used: usize },
+    Short,
+    Before { place: usize },
+    Byte { place: usize },
+    Wide { place: usize },
+    Many { place: usize },
+    Empty { place: usize },
+    Uneven { place: usize },
+}
+
+// Its number, its place, and the bytes used.
+pub fn tell_made(made: Made) -> Told
+    ensures { λ r. ⌜ ToldMade made r ⌝ }
+{
+    match made {
+        Made::Done { used } => Told {
+            number: 0,
+            place: 0,
+            used,
+        },
+        Made::Short => refusal(20, 0),
+        Made::Before { place } => refusal(21, place),
+        Made::Byte { place } => refusal(22, place),
+        Made::Wide { place } => refusal(23, place),
+        Made::Many { place } => refusal(24, place),
+        Made::Empty { place } => refusal(25, place),
+        Made::Uneven { place } => refusal(26, place),
+    }
+}
+
+// Whether a byte belongs to the end of its line.
+fn ends_line(text: &[u8], i: usize) -> bool
+    requires { ⌜ i < length (now text) ⌝ }
+    ensures { λ r. ⌜ r ≡ endsLine (now (text .entry)) i ⌝ }
+{
+    if text[i] == b'\n' {
+        return true;
+    }
+    if text[i] != b'\r' {
+        return false;
+    }
+    if i + 1 == text.len() {
+        return false;
+    }
+    text[i + 1] == b'\n'
+}
+
+// Whether a byte opens a sequence. Here and below, `line` is where the line of byte i starts.
+fn opens(text: &[u8], line: usize, i: usize) -> bool
+    requires { ⌜ AtByte (now text) line i ⌝ }
+    ensures { λ r. ⌜ r ≡ opens (now (text .entry)) i ⌝ }
+{
+    if line != i {
+        return false;
+    }
+    text[line] == b'>'
+}
+
+// Whether a byte is a state.
+pub fn is_state(text: &[u8], line: usize, i: usize) -> bool
+    requires { ⌜ AtByte (now text) line i ⌝ }
+    ensures { λ r. ⌜ r ≡ isState (now (text .entry)) i ⌝ }
+{
+    if text[line] == b'>' {
+        return false;
+    }
+    !ends_line(text, i)
+}
+
+// Where the line of the next byte starts.
+pub fn next_line(text: &[u8], line: usize, i: usize) -> usize
+    requires { ⌜ AtByte (now text) line i ⌝ }
+    ensures { λ r. ⌜ r ≡ lineStart (now (text .entry)) (i + 1) ⌝ }
+{
+    if text[i] == b'\n' {
+        return i + 1;
+    }
+    line
+}
+
+// How many sequences are opened before the next byte, when `begun` are before this one.
+fn next_begun(text: &[u8], line: usize, i: usize, begun: usize) -> usize
+    requires { ⌜ AtByte (now text) line i × (begun ≡ opened (now text) i) × (begun ≤ 256) ⌝ }
+    ensures { λ r. ⌜ r ≡ opened (now (text .entry)) (i + 1) ⌝ }
+{
+    if opens(text, line, i) {
+        return begun + 1;
+    }
+    begun
+}
+
+// Byte i is a state: the fault that it is, or none, and then it is counted.
+fn take_state(text: &[u8], i: usize, begun: usize, lengths: &mut [u8]) -> Made
+    requires { ⌜ (isState (now text) i ≡ true) × CountedTo (now text) i begun (now lengths) ⌝ }
+    ensures { λ r. ⌜ Taken (now (text .entry)) i (now (lengths .exit)) r ⌝ }
+{
+    if begun == 0 {
+        return Made::Before { place: i };
+    }
+    if outside(33, 126, text[i] as usize) {
+        return Made::Byte { place: i };
+    }
+    if 64 <= lengths[begun - 1] {
+        return Made::Wide { place: i };
+    }
+    lengths[begun - 1] += 1;
+    Made::Done { used: 0 }
+}
+
+// Byte i is read: the fault that it is, or none; a state is counted.
+fn take(text: &[u8], line: usize, i: usize, begun: usize, lengths: &mut [u8]) -> Made
+    requires { ⌜ AtByte (now text) line i × CountedTo (now text) i begun (now lengths) ⌝ }
+    ensures { λ r. ⌜ Taken (now (text .entry)) i (now (lengths .exit)) r ⌝ }
+{
+    if is_state(text, line, i) {
+        return take_state(text, i, begun, lengths);
+    }
+    if !opens(text, line, i) {
+        return Made::Done { used: 0 };
+    }
+    if 256 <= begun {
+        return Made::Many { place: i };
+    }
+    Made::Done { used: 0 }
+}
+
+// The first fault, or none, and how many sequences were opened before it.
+struct Reading {
+    answer: Made,
+    begun: usize,
+}
+
+// Reads up to the first fault, and counts the states of each sequence.
+fn read(text: &[u8], lengths: &mut [u8]) -> Reading
+    requires { ⌜ now lengths ≡ replicate 256 0 ⌝ }
+    ensures { λ r. ⌜ ReadAll (now (text .entry)) (now (lengths .exit)) r ⌝ }
+{
+    let mut begun = 0;
+    let mut line = 0;
+    let mut i = 0;
+    while i < text.len() {
+        let answer = take(text, line, i, begun, lengths);
+        let told = tell_made(answer);
+        if told.number != 0 {
+            return Reading { answer, begun };
+        }
+        begun = next_begun(text, line, i, begun);
+        line = next_line(text, line, i);
+        i += 1;
+    }
+    Reading {
+        answer: Made::Done { used: 0 },
+        begun,
+    }
+}
+
+// The first of n lengths that is outside its bounds, or n where there is none.
+fn first_outside(lengths: &[u8], n: usize, low: usize, high: usize) -> usize
+    requires { ⌜ n ≤ length (now lengths) ⌝ }
+    ensures { λ r. ⌜ r ≡ first n (λ k. outside low high (getD (now (lengths .entry)) k 0)) ⌝ }
+{
+    let mut k = 0;
+    while k < n {
+        if outside(low, high, lengths[k] as usize) {
+            return k;
+        }
+        k += 1;
+    }
+    k
+}
+
+// The rows and the width of a job that a text can be made, or its refusal, and then both are 0.
+pub struct Measured {
+    pub answer: Made,
+    pub rows: usize,
+    pub width: usize,
+}
+
+fn refused(answer: Made) -> Measured
+    ensures { λ r. ⌜ (r .answer ≡ answer) × (r .rows ≡ 0) × (r .width ≡ 0) ⌝ }
+{
+    Measured {
+        answer,
+        rows: 0,
+        width: 0,
+    }
+}
+
+// The refusals 21 to 26 of a text, or the size of its job.
+pub fn measure(text: &[u8]) -> Measured
+    ensures { λ r. ⌜ MeasuredAs (now (text .entry)) r ⌝ }
+{
+    let mut lengths = [0u8; 256];
+    let reading = read(text, &mut lengths);
+    let answer = reading.answer;
+    let told = tell_made(answer);
+    if told.number != 0 {
+        return refused(answer);
+    }
+    let rows = reading.begun;
+    if rows == 0 {
+        return refused(Made::Empty { place: 0 });
+    }
+    let empty = first_outside(&lengths, rows, 1, 64);
+    if empty < rows {
+        return refused(Made::Empty { place: empty });
+    }
+    let width = lengths[0] as usize;
+    let uneven = first_outside(&lengths, rows, width, width);
+    if uneven < rows {
+        return refused(Made::Uneven { place: uneven });
+    }
+    Measured {
+        answer,
+        rows,
+        width,
+    }
+}

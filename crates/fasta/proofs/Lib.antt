@@ -1,0 +1,4 @@
+pub mod Made
+pub mod Written
+pub mod Left
+pub mod Ready

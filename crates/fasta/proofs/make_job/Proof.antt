@@ -1,0 +1,106 @@
+-- `fasta::make_job` meets its contract: each of its three ends leaves what Left.antt says.
+use mathlib.Core.Path.{sym, _∙_}
+use Prim.Native.Nat.{_≤_}
+use native.Mathlib.Omega.{arith}
+use lib.ListN.{length}
+use borrow.Author.Needs.{needs}
+use Rattle.fasta.specs.Turned.{jobRoom}
+use Rattle.fasta.proofs.Left.{Sized, sized, short-left, refusal-left, job-left}
+use Rattle.fasta.proofs.make_job.Statement.{statement}
+use Rattle.fasta.proofs.make_job.Tie as tie
+
+-- The entry, seen from behind the test of the room, and what that test says.
+abbrev entry : tie.Else1 → tie.Start
+entry c = c .before .before .before .before .before .before .before
+
+enough : (c : tie.Else1) → jobRoom ≤ length (entry c .args .job .now)
+enough c = rw (c .before .before .before .clear-bytes .kept .0) at (c .if1 .left)
+
+-- What is known once the text is not refused.
+size : (c : tie.Else2) →
+    let m = c .before .before .before in
+    Sized (entry (m .before) .args .text .now) (m .measure .result .rows) (m .measure .result .width)
+size c =
+    let t = c .before .before in
+    sized (t .before .measure .ensures) (sym (t .tell-made .ensures .number-is) ∙ c .if2 .left)
+
+clear-bytes-requires : tie.Need-clear-bytes-requires
+clear-bytes-requires c κs = search needs
+
+same-length : tie.Need-same-length
+same-length c = search needs
+
+returns : tie.Need-returns
+returns c =
+    let clear = c .before .before .before .clear-bytes in
+    short-left _ _ _ (clear .ensures) (rw (clear .kept .0) at (c .if1 .taken))
+
+measure-requires : tie.Need-measure-requires
+measure-requires c κs = search needs
+
+tell-made-requires : tie.Need-tell-made-requires
+tell-made-requires c κs = search needs
+
+same-length-2 : tie.Need-same-length-2
+same-length-2 c = search needs
+
+returns-2 : tie.Need-returns-2
+returns-2 c =
+    let t = c .before .before in
+    let room = t .before .before in
+    refusal-left _ _ _ (room .before .before .before .clear-bytes .ensures) (enough room) (t .before .measure .ensures .answer-is)
+    (λ e. c .if2 .taken (t .tell-made .ensures .number-is ∙ e))
+
+mul-states : tie.Need-mul-states
+mul-states c = omega (arith, size c .room)
+
+add-states : tie.Need-add-states
+add-states c = omega (arith, size c .room)
+
+mul-used : tie.Need-mul-used
+mul-used c = omega (arith, size c .room)
+
+add-used : tie.Need-add-used
+add-used c = omega (arith, size c .room)
+
+put-head-requires : tie.Need-put-head-requires
+put-head-requires c κs = let s = size (c .before) in (s .few, s .narrow, omega arith, omega arith)
+
+put-weights-requires : tie.Need-put-weights-requires
+put-weights-requires c κs = omega (arith, size (c .before .before .before .before .before) .room)
+
+put-states-requires : tie.Need-put-states-requires
+put-states-requires c κs = let s = size (c .before .before .before .before .before .before .before .before .before) in omega arith
+
+same-length-3 : tie.Need-same-length-3
+same-length-3 c = search needs
+
+returns-3 : tie.Need-returns-3
+returns-3 c =
+    let behind = c .before .before in
+    let weights = behind .before .before .before .before in
+    let head = weights .before .before .before .before in
+    let room = head .before .before .before .before .before .before in
+    job-left _ _ _ (room .before .before .before .clear-bytes .ensures) (enough room) (size (head .before .before)) (head .put-head .ensures)
+    (weights .put-weights .ensures) (behind .put-states .ensures)
+
+pub make-job-spec : {M : Type 1} → statement M
+make-job-spec =
+    tie.close
+    (tie.spec
+    clear-bytes-requires
+    same-length
+    returns
+    measure-requires
+    tell-made-requires
+    same-length-2
+    returns-2
+    mul-states
+    add-states
+    mul-used
+    add-used
+    put-head-requires
+    put-weights-requires
+    put-states-requires
+    same-length-3
+    returns-3)

@@ -1,0 +1,47 @@
+-- `fasta::put_state` meets its contract: a state is stored, and any other byte is not.
+use mathlib.Core.Path.{_≡_, sym, _∙_}
+use mathlib.Core.Bool.{true}
+use native.Mathlib.Omega.{arith}
+use borrow.Author.Needs.{needs}
+use borrow.Author.Tests.{not-true, not-false}
+use Rattle.alignment.specs.Lines.{isState}
+use Rattle.memory.proofs.Follows.{follows-none}
+use Rattle.fasta.proofs.Written.{stored}
+use Rattle.fasta.proofs.put_state.Statement.{statement}
+use Rattle.fasta.proofs.put_state.Tie as tie
+
+state : (c : tie.Else1) → let a = c .before .before .before .before .args in isState (a .text .now) (a .i) ≡ true
+state c = sym (c .before .is-state .ensures) ∙ not-false _ (c .if1 .left)
+
+is-state-requires : tie.Need-is-state-requires
+is-state-requires c κs = search needs
+
+returns : tie.Need-returns
+returns c = rw (sym (c .before .is-state .ensures) ∙ not-true _ (c .if1 .taken)) (follows-none _ _)
+
+shared-slice-read-job : tie.Need-shared-slice-read-job
+shared-slice-read-job c = search needs
+
+slice-write-job : tie.Need-slice-write-job
+slice-write-job c = omega (arith, rw (state (c .before)) at (c .before .before .before .before .before .pre .1))
+
+add-result : tie.Need-add-result
+add-result c = search needs
+
+same-length : tie.Need-same-length
+same-length c = search needs
+
+returns-2 : tie.Need-returns-2
+returns-2 c = rw (state (c .before)) (stored _ _ _ (slice-write-job c))
+
+pub put-state-spec : {M : Type 1} → statement M
+put-state-spec =
+    tie.close
+    (tie.spec
+    is-state-requires
+    returns
+    shared-slice-read-job
+    slice-write-job
+    add-result
+    same-length
+    returns-2)

@@ -1,0 +1,93 @@
+-- `fasta_service::answer_fasta` meets its contract: each of its three ends leaves what Left.antt says.
+use mathlib.Core.Path.{_≡_, sym, ap, _∙_}
+use Prim.Native.Nat.{ℕ}
+use lib.ListN.{length-replicate}
+use lib.Seq.{length-take-le}
+use Rattle.alignment.specs.Answers.{madeNumber, madePlace}
+use Rattle.fasta.proofs.Ready.{Ready, ready, not-ready}
+use Rattle.fasta_service.proofs.Left.{job-left, room-left, refusal-left}
+use borrow.Author.Needs.{needs}
+use native.Mathlib.Omega.{arith}
+use Rattle.fasta_service.proofs.answer_fasta.Statement.{statement}
+use Rattle.fasta_service.proofs.answer_fasta.Tie as tie
+
+-- The job that was made.
+abbrev entry : tie.Then1 → tie.Start
+entry c = c .before .before .before .before .before .before .before .before
+
+made : (c : tie.Then1) → let t = c .before .before in
+    Ready (entry c .args .text .now) (entry c .args .epsilon) (t .before .before .make-job .last .1 .1 .0) (t .tell-made .result .used)
+made c =
+    let told = c .before .before .tell-made .ensures in
+    ready (c .before .before .before .before .make-job .ensures) (omega arith) (sym (told .number-is) ∙ c .if1 .taken) (told .used-is)
+
+slice-aggregate-make-job : tie.Need-slice-aggregate-make-job
+slice-aggregate-make-job c = search needs
+
+make-job-requires : tie.Need-make-job-requires
+make-job-requires c κs = search needs
+
+tell-made-requires : tie.Need-tell-made-requires
+tell-made-requires c κs = search needs
+
+array-share-prefix-job : tie.Need-array-share-prefix-job
+array-share-prefix-job c = made c .within
+
+slice-aggregate-answer-text : tie.Need-slice-aggregate-answer-text
+slice-aggregate-answer-text c = sym (length-take-le _ _ (made (c .before) .within))
+
+answer-text-requires : tie.Need-answer-text-requires
+answer-text-requires c κs = search needs
+
+same-length : tie.Need-same-length
+same-length c = search needs
+
+returns : tie.Need-returns
+returns c =
+    let a = c .before .before in
+    job-left _ _ (made (a .before .before .before)) (a .answer-text .ensures)
+
+clear-bytes-requires : tie.Need-clear-bytes-requires
+clear-bytes-requires c κs = search needs
+
+same-length-2 : tie.Need-same-length-2
+same-length-2 c = search needs
+
+returns-2 : tie.Need-returns-2
+returns-2 c =
+    let clear = c .before .before .before .clear-bytes in
+    room-left _ _ (clear .ensures) (omega arith)
+
+put-refusal-requires : tie.Need-put-refusal-requires
+put-refusal-requires c κs = search needs
+
+same-length-3 : tie.Need-same-length-3
+same-length-3 c = search needs
+
+returns-3 : tie.Need-returns-3
+returns-3 c =
+    let put = c .before .before in
+    let clear = put .before .before .before .before .before in
+    let told = clear .before .before .before .before in
+    let m = not-ready (told .before .before .make-job .ensures) (omega arith) (λ z. clear .before .before .if1 .left (told .tell-made .ensures .number-is ∙ z)) in
+    refusal-left _ _ (clear .clear-bytes .ensures) (omega arith) (m .1) (told .tell-made .ensures .number-is ∙ ap madeNumber (m .0))
+    (told .tell-made .ensures .place-is ∙ ap madePlace (m .0)) (put .put-refusal .ensures)
+
+pub answer-fasta-spec : {M : Type 1} → statement M
+answer-fasta-spec =
+    tie.close
+    (tie.spec
+    slice-aggregate-make-job
+    make-job-requires
+    tell-made-requires
+    array-share-prefix-job
+    slice-aggregate-answer-text
+    answer-text-requires
+    same-length
+    returns
+    clear-bytes-requires
+    same-length-2
+    returns-2
+    put-refusal-requires
+    same-length-3
+    returns-3)

@@ -1,0 +1,27 @@
+// The room of the service for FASTA: a text is turned into a job, which is answered, and the answer printed into memory that is lent. What
+// the program for FASTA does, but for reading and writing.
+
+ghost use Rattle.fasta_service.specs.Printed.{FastaText};
+use alignment::tell_made;
+use fasta::make_job;
+use memory::clear_bytes;
+use service::answer_text;
+use text::put_refusal;
+
+// The text of the network of a FASTA text, or of its refusal. What is handed back is its length.
+pub fn answer_fasta(text: &[u8], epsilon: u16, out: &mut [u8]) -> usize
+    ensures { λ r. ⌜ FastaText (now (text .entry)) epsilon (now (out .entry)) r (now (out .exit)) ⌝ }
+{
+    let mut job = [0u8; 16524];
+    let made = make_job(text, epsilon, &mut job);
+    let told = tell_made(made);
+    if told.number == 0 {
+        let used = told.used;
+        return answer_text(&job[..used], out);
+    }
+    clear_bytes(out);
+    if out.len() < 172718 {
+        return 0;
+    }
+    put_refusal(told.number, told.place, out)
+}

@@ -1,0 +1,127 @@
+// The printing program for FASTA texts: a text from a file or from standard input, its network or its refusal to standard output.
+// Arguments are epsilon in decimal, 0 where it is left out, and the name of the file. What is no text to answer gets a line on standard
+// error, and no network.
+
+ghost use mathlib.Core.Path.{_≡_};
+ghost use lib.ListN.{length};
+ghost use Rattle.hurdlesong_fasta.specs.Fits.{Fits};
+use fasta_service::answer_fasta;
+use numerals::Numeral;
+use numerals::read_number;
+
+// What came of reading a text: all of it, so many bytes; more than there is room for; or a read that failed.
+enum Input {
+    Whole { length: usize },
+    Long,
+    Failed,
+}
+
+// A line on standard error.
+fn complain(line: &[u8]) {
+    io::write_all(libc::STDERR_FILENO, line);
+}
+
+// The text of an answer, by one write.
+fn print(answer: &[u8]) {
+    if !io::write_all(libc::STDOUT_FILENO, answer) {
+        complain(b"hurdlesong_fasta: the answer could not be written\n");
+    }
+}
+
+// A mebibyte of zeros, which is the longest text. Its length is all that is known of it, so that no proof goes through so many zeros.
+fn mebibyte() -> [u8; 1048576]
+    ensures { λ r. ⌜ 1048576 ≡ length r ⌝ }
+{
+    [0; 1048576]
+}
+
+// Reads a text to its end. A read that fails is not taken for the end, since what came before it is a part of a text and not the text.
+// Each turn but the last adds a byte or more, so the room that is left falls.
+fn read_text(fd: i32, text: &mut [u8]) -> Input
+    ensures { λ r. ⌜ Fits r (now (text .exit)) ⌝ }
+{
+    let mut space = io::large_buffer();
+    let chunk: &mut [u8] = &mut space;
+    let mut done = 0;
+    loop {
+        let got = libc::read(fd, chunk);
+        if got < 0 {
+            return Input::Failed;
+        }
+        let more = io::count(got, chunk);
+        if more == 0 {
+            return Input::Whole { length: done };
+        }
+        if text.len() - done < more {
+            return Input::Long;
+        }
+        memory::copy(&chunk[..more], text, done);
+        done += more;
+    }
+}
+
+// The network of a text, in memory for the longest text of an answer.
+fn answer(text: &[u8], epsilon: u16) {
+    let mut out = [0u8; 172718];
+    let used = answer_fasta(text, epsilon, &mut out);
+    print(&out[0..used]);
+}
+
+// The text that a descriptor hands out, of at most a mebibyte.
+fn answer_from(fd: i32, epsilon: u16) {
+    let mut text = mebibyte();
+    match read_text(fd, &mut text) {
+        Input::Whole { length } => answer(&text[..length], epsilon),
+        Input::Long => complain(b"hurdlesong_fasta: the text is longer than 1048576 bytes\n"),
+        Input::Failed => complain(b"hurdlesong_fasta: the text could not be read\n"),
+    }
+}
+
+// The text in the file that the second argument names. A name that does not fit the buffer leaves no bytes, as an empty one does.
+fn answer_file(epsilon: u16) {
+    let mut path = io::buffer();
+    let n = os::arg(2, &mut path);
+    if n == 0 {
+        complain(b"hurdlesong_fasta: the name of the file is empty or too long\n");
+        return;
+    }
+    let fd = os::open_read(&path[..n]);
+    if fd < 0 {
+        os::fail(&path[..n]);
+        return;
+    }
+    answer_from(fd, epsilon);
+    libc::close(fd);
+}
+
+// The epsilon that the first argument says. One that is missing, empty or too long leaves no bytes, and those write no number.
+fn first_argument() -> Numeral {
+    let mut word = io::buffer();
+    let n = os::arg(1, &mut word);
+    read_number(&word[..n])
+}
+
+// The arguments are counted with the name of the program, which is the first.
+fn main() {
+    let count = os::arg_count();
+    if 3 < count {
+        complain(b"hurdlesong_fasta: at most two arguments, epsilon and a file\n");
+        return;
+    }
+    if count < 2 {
+        answer_from(libc::STDIN_FILENO, 0);
+        return;
+    }
+    match first_argument() {
+        Numeral::Number { value } => {
+            if count == 3 {
+                answer_file(value);
+            } else {
+                answer_from(libc::STDIN_FILENO, value);
+            }
+        }
+        Numeral::Other => {
+            complain(b"hurdlesong_fasta: the epsilon is not a decimal number from 0 to 65535\n")
+        }
+    }
+}
