@@ -1,30 +1,51 @@
 #!/usr/bin/env bash
-# hurdlesong.sh FILE: the network of the job block in FILE, or its refusal. The program is proved and built first where that is not
-# done yet; this needs the Rattle toolchain's `rt` on the path and takes some minutes the first time.
+# hurdlesong.sh FILE [EPSILON]: the network of the FASTA text in FILE, or its refusal. A FILE that ends in .job is a job block instead, which
+# has its own epsilon. The program is proved and built first where that is not done yet; this needs the Rattle toolchain's `rt` on the path
+# and takes some minutes the first time. The exit status is 0 where there is an answer, a network or a refusal, and not where there is none.
 set -eu
-if [ $# -ne 1 ]; then
-    echo "usage: $0 FILE" >&2
+if [ $# -lt 1 ] || [ $# -gt 2 ]; then
+    echo "usage: $0 FILE [EPSILON]" >&2
     exit 2
 fi
 if [ ! -r "$1" ]; then
     echo "$0: cannot read $1" >&2
     exit 2
 fi
-job=$(realpath "$1")
+file=$(realpath "$1")
+epsilon=${2-0}
+case $file in
+*.job)
+    if [ $# -eq 2 ]; then
+        echo "$0: a job block has its own epsilon" >&2
+        exit 2
+    fi
+    program=hurdlesong
+    ;;
+*) program=hurdlesong_fasta ;;
+esac
 cd "$(dirname "$(realpath "$0")")"
 if ! command -v rt > /dev/null; then
     echo "$0: the Rattle toolchain's rt is not on the path" >&2
     exit 2
 fi
-if ! log=$(rt check hurdlesong 2>&1); then
+if ! log=$(rt check "$program" 2>&1); then
     printf '%s\n' "$log" >&2
     exit 1
 fi
 # The program is for x86-64 Linux and is started by the toolchain's own loader; on another processor the toolchain's emulator runs it.
 kit=$(dirname "$(dirname "$(realpath "$(command -v rt)")")")
 tools=$kit/on/$(uname -m)/toolchain
-run=("$tools/lib/ld-linux-x86-64.so.2" --library-path "$tools/lib" target/bin/hurdlesong)
+run=("$tools/lib/ld-linux-x86-64.so.2" --library-path "$tools/lib" "target/bin/$program")
 if [ -x "$tools/bin/qemu-x86_64" ]; then
     run=("$tools/bin/qemu-x86_64" "${run[@]}")
 fi
-exec "${run[@]}" < "$job"
+# The program itself has no exit status to set: it writes its answer to standard output, or says on standard error why there is none.
+answer=$(mktemp)
+trap 'rm -f "$answer"' EXIT
+if [ "$program" = hurdlesong ]; then
+    "${run[@]}" < "$file" > "$answer"
+else
+    "${run[@]}" "$epsilon" "$file" > "$answer"
+fi
+cat "$answer"
+test -s "$answer"

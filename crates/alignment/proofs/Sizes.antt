@@ -13,9 +13,9 @@ use Rattle.graph.specs.Below.{first}
 use Rattle.graph.proofs.Below.{first-le, first-before, first-hits, first-is}
 use Rattle.rules.specs.Job.{Bytes, outside}
 use Rattle.alignment.specs.Sequences.{sequences, sequence}
-use Rattle.alignment.specs.Answers.{refuses, when_refuse_else_, passed}
+use Rattle.alignment.specs.Answers.{refuses, passed}
 use Rattle.alignment.specs.Refusals.{faultAt, firstFault, firstEmpty, firstUneven, measured}
-use Rattle.alignment.specs.Read.{readAnswer, ReadAll, MeasuredAs}
+use Rattle.alignment.specs.Read.{ReadAll, MeasuredAs}
 use Rattle.alignment.specs.declared.Made.{Made}
 use Rattle.alignment.specs.declared.Made.the-variants.{Empty, Uneven}
 use Rattle.alignment.specs.declared.Reading.{Reading}

@@ -1,9 +1,9 @@
 -- What a FASTA text is answered: the number, the place and the bytes used of each answer. A success has number 0, place 0 and the bytes of
 -- the block; a refusal its number, its place and no bytes.
-use mathlib.Core.Path.{_≡_}
 use mathlib.Core.Bool.{Bool, true, false, not}
 use Prim.Native.Nat.{ℕ}
 use lib.Dec.{eqb}
+use Rattle.answers.specs.Told.{Tells}
 use Rattle.answers.specs.declared.Told.{Told}
 use Rattle.alignment.specs.declared.Made.{Made}
 use Rattle.alignment.specs.declared.Made.the-variants.{Done, Short, Before, Byte, Wide, Many, Empty, Uneven}
@@ -39,10 +39,8 @@ madeUsed (Many place) = 0
 madeUsed (Empty place) = 0
 madeUsed (Uneven place) = 0
 
-pub record ToldMade (made : Made) (r : Told) : Type 0 where
-  pub number-is : r .number ≡ madeNumber made
-  pub place-is : r .place ≡ madePlace made
-  pub used-is : r .used ≡ madeUsed made
+abbrev pub ToldMade : Made → Told → Type 0
+ToldMade made r = Tells (madeNumber made) (madePlace made) (madeUsed made) r
 
 abbrev pub refuses : Made → Bool
 refuses made = not (eqb (madeNumber made) 0)

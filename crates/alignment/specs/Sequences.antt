@@ -1,7 +1,7 @@
 -- The sequences of a FASTA text.
 use mathlib.Core.Bool.{Bool, _&&_}
-use Prim.Native.Nat.{ℕ, suc, _-_}
-use lib.Dec.{ltb, eqb}
+use Prim.Native.Nat.{ℕ, suc}
+use lib.Dec.{eqb}
 use lib.ListN.{length}
 use Rattle.graph.specs.Below.{gather, only, count}
 use Rattle.rules.specs.Job.{Bytes, Row}

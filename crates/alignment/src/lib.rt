@@ -116,10 +116,12 @@ fn take_state(text: &[u8], i: usize, begun: usize, lengths: &mut [u8]) -> Made
     if begun == 0 {
         return Made::Before { place: i };
     }
-    if outside(33, 126, text[i] as usize) {
+    let bad = outside(33, 126, text[i] as usize);
+    let full = 64 <= lengths[begun - 1];
+    if bad {
         return Made::Byte { place: i };
     }
-    if 64 <= lengths[begun - 1] {
+    if full {
         return Made::Wide { place: i };
     }
     lengths[begun - 1] += 1;

@@ -1,7 +1,7 @@
 // The room of the answers: the number, the place and the bytes used of an answer, as document 01's table of refusals has them.
 
 ghost use mathlib.Core.Path.{_≡_};
-ghost use Rattle.answers.specs.Told.{ToldOf, firstOf};
+ghost use Rattle.answers.specs.Told.{Tells, ToldOf, firstOf};
 use rules::Answer;
 
 pub struct Told {
@@ -12,7 +12,7 @@ pub struct Told {
 
 // A refusal has used no bytes.
 pub fn refusal(number: usize, place: usize) -> Told
-    ensures { λ r. ⌜ (r .number ≡ number) × (r .place ≡ place) × (r .used ≡ 0) ⌝ }
+    ensures { λ r. ⌜ Tells number place 0 r ⌝ }
 {
     Told {
         number,

@@ -28,18 +28,17 @@ use Rattle.rules.proofs.Decimals as decimals
 use Rattle.found.specs.ReadBack.{readBack}
 use Rattle.found.proofs.Found as network
 use Rattle.found.proofs.Result as result
-use Rattle.answers.specs.Told.{ToldOf}
+use Rattle.answers.specs.Told.{Tells}
 use Rattle.answers.specs.declared.Told.{Told}
-use Rattle.text.specs.Printed.{ToldText, textOf, TextLeft}
+use Rattle.text.specs.Printed.{textOf, RefusalLeft, TextLeft}
 use Rattle.text.specs.declared.Printed.{Printed}
 use Rattle.text.proofs.Once as text
-use Rattle.service.specs.Served.{TextOnly}
+use Rattle.service.specs.Served.{Shown}
 use Rattle.service.proofs.Text as service
-use Rattle.alignment.specs.Answers.{madeNumber, madeUsed, ToldMade}
+use Rattle.alignment.specs.Answers.{madeNumber, madeUsed}
 use Rattle.alignment.specs.Sequences.{sequences, sequence}
 use Rattle.alignment.specs.declared.Made.{Made}
 use Rattle.fasta.specs.Turned.{Turned}
-use Rattle.fasta_service.specs.Printed.{FastaText}
 use Rattle.demands.specs.Drawing.{Drawing}
 use Rattle.demands.specs.Refusals.{Condition, Turn}
 use Rattle.claims.specs.Calls.{Memory, SameLengths, lengthsOf, Calls, Serves}
@@ -136,41 +135,38 @@ module _ (job block : Bytes) (k : ℕ) where
   pub same-states : (xs ys : Bytes) → xs ≡ lookup job block k → ys ≡ lookup job block k → xs ≡ ys
   same-states xs ys e f = e ∙ sym f
 
--- ── The text (`TextLeft`, the contract of `text`) ──
+-- ── The text (`TextLeft`, the contract of `text`; `RefusalLeft`, that of `refusal_text`) ──
 
--- The contract leaves no choice.
+-- The contracts leave no choice.
 pub same-text : (job block : Bytes) (a : Answer) (lent : ℕ) (out out′ : Bytes) (r r′ : Printed) →
     TextLeft job block a lent out r → TextLeft job block a lent out′ r′ → (out ≡ out′) × (r ≡ r′)
 same-text job block a lent out out′ r r′ p q = text.text-one p q
+
+pub same-refusal-text : (n at lent : ℕ) (out out′ : Bytes) (r r′ : Printed) → RefusalLeft n at lent out r → RefusalLeft n at lent out′ r′ →
+    (out ≡ out′) × (r ≡ r′)
+same-refusal-text n at lent out out′ r r′ p q = (p .left ∙ sym (q .left), p .answered ∙ sym (q .answered))
 
 -- The text of what a call leaves is the text that document 01 prints.
 pub printed-text : (lent : Lent) (job : Bytes) → textOf job (resultAfter lent job) (answer lent job) ≡ printed lent job
 printed-text = service.text-is
 
--- ── The service and what is told of an answer (`ServedText`, `TextOnly`, `ToldOf`, `ToldText`): no choice is left ──
+-- ── The service, texts alone (`TextOnly`, `FastaText`) and what is told of an answer (`ToldOf`, `ToldText`, `ToldMade`): no choice is left ──
 
 pub same-served : (job : Bytes) (before after after′ : Memory) (out out₁ out₂ : Bytes) (r r′ : Printed) → Serves job before out r after out₁ →
     Serves job before out r′ after′ out₂ → (r ≡ r′) × (after ≡ after′) × (out₁ ≡ out₂)
 same-served = calls.same-served
 
-pub same-text-only : (job out out₁ out₂ : Bytes) (r r′ : ℕ) → TextOnly job out r out₁ → TextOnly job out r′ out₂ → (r ≡ r′) × (out₁ ≡ out₂)
-same-text-only job out out₁ out₂ r r′ a b = (a .used-is ∙ sym (b .used-is), a .left ∙ sym (b .left))
+pub same-shown : (xs out out₁ out₂ : Bytes) (r r′ : ℕ) → Shown xs out r out₁ → Shown xs out r′ out₂ → (r ≡ r′) × (out₁ ≡ out₂)
+same-shown xs out out₁ out₂ r r′ a b = (a .used-is ∙ sym (b .used-is), a .left ∙ sym (b .left))
 
-pub same-told : (a : Answer) (r r′ : Told) → ToldOf a r → ToldOf a r′ → r ≡ r′
-same-told a r r′ p q i = record {
+pub same-told : (n at bytes : ℕ) (r r′ : Told) → Tells n at bytes r → Tells n at bytes r′ → r ≡ r′
+same-told n at bytes r r′ p q i = record {
   number = (p .number-is ∙ sym (q .number-is)) i;
   place = (p .place-is ∙ sym (q .place-is)) i;
   used = (p .used-is ∙ sym (q .used-is)) i;
 }
 
-pub same-told-text : (a : Printed) (r r′ : Told) → ToldText a r → ToldText a r′ → r ≡ r′
-same-told-text a r r′ p q i = record {
-  number = (p .number-is ∙ sym (q .number-is)) i;
-  place = (p .place-is ∙ sym (q .place-is)) i;
-  used = (p .used-is ∙ sym (q .used-is)) i;
-}
-
--- ── FASTA texts (`Turned`, the contract of `make_job`; `FastaText`, that of `answer_fasta`) ──
+-- ── FASTA texts (`Turned`, the contract of `make_job`) ──
 
 module _ (text job : Bytes) (e lent : ℕ) (r : Made) (turn : Turned text e lent job r) where
   -- Past the bytes used the lent job is zero; a refusal uses none.
@@ -195,21 +191,10 @@ module _ (text job : Bytes) (e lent : ℕ) (r : Made) (turn : Turned text e lent
     pub made-epsilon : epsilon (take (madeUsed r) job) ≡ e
     made-epsilon = fasta.made-epsilon turn z
 
--- The contracts leave no choice.
+-- The contract leaves no choice.
 pub same-made : (text : Bytes) (e lent : ℕ) (job job′ : Bytes) (r r′ : Made) → Turned text e lent job r → Turned text e lent job′ r′ →
     (r ≡ r′) × (job ≡ job′)
 same-made text e lent job job′ r r′ a b = (a .answered ∙ sym (b .answered), a .left ∙ sym (b .left))
-
-pub same-fasta-text : (text : Bytes) (e : ℕ) (out out₁ out₂ : Bytes) (r r′ : ℕ) → FastaText text e out r out₁ → FastaText text e out r′ out₂ →
-    (r ≡ r′) × (out₁ ≡ out₂)
-same-fasta-text text e out out₁ out₂ r r′ a b = (a .used-is ∙ sym (b .used-is), a .left ∙ sym (b .left))
-
-pub same-told-made : (a : Made) (r r′ : Told) → ToldMade a r → ToldMade a r′ → r ≡ r′
-same-told-made a r r′ p q i = record {
-  number = (p .number-is ∙ sym (q .number-is)) i;
-  place = (p .place-is ∙ sym (q .place-is)) i;
-  used = (p .used-is ∙ sym (q .used-is)) i;
-}
 
 -- ── No definition runs out of turns ──
 

@@ -4,9 +4,9 @@
 ghost use Rattle.fasta_service.specs.Printed.{FastaText};
 use alignment::tell_made;
 use fasta::make_job;
-use memory::clear_bytes;
 use service::answer_text;
-use text::put_refusal;
+use text::refusal_text;
+use text::tell_text;
 
 // The text of the network of a FASTA text, or of its refusal. What is handed back is its length.
 pub fn answer_fasta(text: &[u8], epsilon: u16, out: &mut [u8]) -> usize
@@ -19,9 +19,7 @@ pub fn answer_fasta(text: &[u8], epsilon: u16, out: &mut [u8]) -> usize
         let used = told.used;
         return answer_text(&job[..used], out);
     }
-    clear_bytes(out);
-    if out.len() < 172718 {
-        return 0;
-    }
-    put_refusal(told.number, told.place, out)
+    let printed = refusal_text(told.number, told.place, out);
+    let ended = tell_text(printed);
+    ended.used
 }

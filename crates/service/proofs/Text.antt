@@ -23,7 +23,7 @@ use Rattle.text.specs.Printed.{printedUsed, textRoom, textOf, printedAs, printe
 use Rattle.text.specs.declared.Printed.{Printed}
 use Rattle.text.specs.declared.Printed.the-variants.{Done, Room}
 use Rattle.network.specs.Called.{lentBy, Called}
-use Rattle.service.specs.Served.{printedIn, ServedText, shown, TextOnly}
+use Rattle.service.specs.Served.{printedIn, ServedText, shown, Shown, TextOnly}
 
 module _ (lent : Lent) (job : Bytes) where
   pub text-is : textOf job (resultAfter lent job) (answer lent job) ≡ printed lent job
@@ -102,14 +102,15 @@ shown-bytes lent xs = go (ltb lent textRoom)
     go true = refl
     go false = refl
 
-pub least-text : {job result states out result′ states′ out′ : Bytes} {distances distances′ : List ℕ} {links links′ : List Link} {r : Printed} {used : ℕ} →
-    ServedText job result states distances links out r result′ states′ distances′ links′ out′ → lentBy result states distances links ≡ least →
-    used ≡ printedUsed r → TextOnly job out used out′
-least-text {job} {out} {out′} {r} {used} s e u =
-    let xs = printed least job in
+pub shown-as : {xs out out′ : Bytes} {r : Printed} {used : ℕ} → r ≡ printedIn (length out) xs → out′ ≡ padded (length out) (printedBytes r xs) →
+    used ≡ printedUsed r → Shown xs out used out′
+shown-as {xs} {out} {out′} {used} said written u =
     let text = shown (length out) xs in
-    let said : r ≡ printedIn (length out) xs = rw e at (s .answered) in
-    let written : out′ ≡ padded (length out) (printedBytes r xs) = rw e at (s .left) in
     let is : used ≡ length text = u ∙ ap printedUsed said ∙ shown-used (length out) xs in
     let all : out′ ≡ padded (length out) text = written ∙ ap (padded (length out)) (ap (λ q. printedBytes q xs) said ∙ shown-bytes (length out) xs) in
     record { used-is = is; left = all; within = rw all (simp length-append (omega (arith, is))) }
+
+pub least-text : {job result states out result′ states′ out′ : Bytes} {distances distances′ : List ℕ} {links links′ : List Link} {r : Printed} {used : ℕ} →
+    ServedText job result states distances links out r result′ states′ distances′ links′ out′ → lentBy result states distances links ≡ least →
+    used ≡ printedUsed r → TextOnly job out used out′
+least-text s e u = shown-as (rw e at (s .answered)) (rw e at (s .left)) u

@@ -24,12 +24,16 @@ pub record ServedText (job result states : Bytes) (distances : List ℕ) (links 
   pub answered : r ≡ printedIn (length out) (printed (lentBy result states distances links) job)
   pub left : out′ ≡ padded (length out) (printedBytes r (printed (lentBy result states distances links) job))
 
--- The text alone, of a call with the least memory that may be lent: nothing where there is no room for every text.
+-- A text alone, and its length: nothing where there is no room for every text.
 abbrev pub shown : ℕ → Bytes → Bytes
 shown lent xs = cond (ltb lent textRoom) [] xs
 
-pub record TextOnly (job out : Bytes) (r : ℕ) (out′ : Bytes) : Type 0 where
-  pub used-is : r ≡ length (shown (length out) (printed least job))
-  pub left : out′ ≡ padded (length out) (shown (length out) (printed least job))
+pub record Shown (xs out : Bytes) (r : ℕ) (out′ : Bytes) : Type 0 where
+  pub used-is : r ≡ length (shown (length out) xs)
+  pub left : out′ ≡ padded (length out) (shown (length out) xs)
   -- this follows, and is said so that a caller may take the text as a part
   pub within : r ≤ length out′
+
+-- The text of a call with the least memory that may be lent.
+abbrev pub TextOnly : Bytes → Bytes → ℕ → Bytes → Type 0
+TextOnly job out r out′ = Shown (printed least job) out r out′

@@ -12,6 +12,7 @@ use Rattle.rules.specs.Text.{text, say, networkText, verdictText}
 use Rattle.rules.specs.declared.Answer.{Answer}
 use Rattle.found.specs.ReadBack.{readBack}
 use Rattle.listing.specs.Lines.{legible}
+use Rattle.answers.specs.Told.{Tells}
 use Rattle.answers.specs.declared.Told.{Told}
 use Rattle.text.specs.declared.Printed.{Printed}
 use Rattle.text.specs.declared.Printed.the-variants.{Done, Room, Block}
@@ -27,10 +28,8 @@ printedUsed (Done used) = used
 printedUsed Room = 0
 printedUsed Block = 0
 
-pub record ToldText (printed : Printed) (r : Told) : Type 0 where
-  pub number-is : r .number ≡ printedNumber printed
-  pub place-is : r .place ≡ 0
-  pub used-is : r .used ≡ printedUsed printed
+abbrev pub ToldText : Printed → Told → Type 0
+ToldText printed r = Tells (printedNumber printed) 0 (printedUsed printed) r
 
 -- At least so many bytes are to be lent for a text: the longest that any result block can give.
 abbrev pub textRoom : ℕ
@@ -55,6 +54,14 @@ abbrev pub printedBytes : Printed → Bytes → Bytes
 printedBytes (Done used) xs = xs
 printedBytes Room xs = []
 printedBytes Block xs = []
+
+-- The line of a refusal alone: 80 where the memory lent is shorter.
+abbrev pub refusalAs : ℕ → ℕ → ℕ → Printed
+refusalAs lent number place = cond (ltb lent textRoom) Room (Done (length (refusalOf number place)))
+
+pub record RefusalLeft (number place lent : ℕ) (out : Bytes) (r : Printed) : Type 0 where
+  pub answered : r ≡ refusalAs lent number place
+  pub left : out ≡ padded lent (printedBytes (refusalAs lent number place) (refusalOf number place))
 
 pub record TextLeft (job block : Bytes) (answer : Answer) (lent : ℕ) (out : Bytes) (r : Printed) : Type 0 where
   pub answered : r ≡ printedAs lent job block answer

@@ -3,10 +3,11 @@
 
 ghost use mathlib.Core.Path.{_≡_};
 ghost use Prim.Native.Nat.{_≤_};
-ghost use lib.ListN.{length};
+ghost use lib.Dec.{leb};
+ghost use lib.ListN.{length, replicate};
 ghost use Rattle.memory.specs.Placed.{Follows};
 ghost use Rattle.listing.specs.Lines.{Legible, legible, networkOf};
-ghost use Rattle.text.specs.Printed.{ToldText, TextLeft, refusalOf};
+ghost use Rattle.text.specs.Printed.{ToldText, textRoom, refusalOf, RefusalLeft, TextLeft};
 use answers::Told;
 use answers::tell;
 use lines::put;
@@ -61,7 +62,7 @@ fn is_legible(job: &[u8], block: &[u8]) -> bool
 }
 
 // A refusal is one line.
-pub fn put_refusal(number: usize, place: usize, out: &mut [u8]) -> usize
+fn put_refusal(number: usize, place: usize, out: &mut [u8]) -> usize
     requires { ⌜ 172718 ≤ length (now out) ⌝ }
     ensures { λ r. ⌜ Follows (now (out .entry)) 0 (refusalOf number place) (now (out .exit)) r ⌝ }
 {
@@ -79,19 +80,35 @@ fn put_network<'a>(job: &'a [u8], block: &'a [u8], out: &mut [u8]) -> usize
     put_links(block, out, at)
 }
 
-// The text of an answer: the network in the result block, read with its job, or the refusal. Zeros follow it to the end; without a text
-// there are zeros throughout.
+// Zeros to the end, and whether there is room for every text.
+fn make_room(out: &mut [u8]) -> bool
+    ensures { λ r. ⌜ (now (out .exit) ≡ replicate (length (now (out .entry))) 0) × (r ≡ leb textRoom (length (now (out .entry)))) ⌝ }
+{
+    clear_bytes(out);
+    172718 <= out.len()
+}
+
+// The line of a refusal, whatever was refused. Zeros follow it to the end; without a text there are zeros throughout.
+pub fn refusal_text(number: usize, place: usize, out: &mut [u8]) -> Printed
+    ensures { λ r. ⌜ RefusalLeft number place (length (now (out .entry))) (now (out .exit)) r ⌝ }
+{
+    if !make_room(out) {
+        return Printed::Room;
+    }
+    let used = put_refusal(number, place, out);
+    Printed::Done { used }
+}
+
+// The text of an answer: the network in the result block, read with its job, or the refusal. Zeros follow it here too.
 pub fn text<'a>(job: &'a [u8], block: &'a [u8], answer: Answer, out: &mut [u8]) -> Printed
     ensures { λ r. ⌜ TextLeft (now (job .entry)) (now (block .entry)) answer (length (now (out .entry))) (now (out .exit)) r ⌝ }
 {
-    clear_bytes(out);
-    if out.len() < 172718 {
-        return Printed::Room;
-    }
     let told = tell(answer);
     if told.number != 0 {
-        let used = put_refusal(told.number, told.place, out);
-        return Printed::Done { used };
+        return refusal_text(told.number, told.place, out);
+    }
+    if !make_room(out) {
+        return Printed::Room;
     }
     if !is_legible(job, block) {
         return Printed::Block;

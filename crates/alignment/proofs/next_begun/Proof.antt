@@ -1,7 +1,7 @@
 -- `alignment::next_begun` meets its contract: an opener is one more.
 use mathlib.Core.Path.{_≡_, sym, ap, _∙_}
 use mathlib.Core.Bool.{Bool, true, false, cond}
-use Prim.Native.Nat.{ℕ, _+_}
+use Prim.Native.Nat.{_+_}
 use Rattle.alignment.specs.Sequences.{opened}
 use Rattle.alignment.proofs.Faults.{opened-more}
 use borrow.Author.Needs.{needs}

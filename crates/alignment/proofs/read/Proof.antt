@@ -1,7 +1,7 @@
 -- `alignment::read` meets its contract: before byte i there is no fault, and everything is counted.
 use mathlib.Core.Path.{_≡_, refl, sym, ap, _∙_}
-use mathlib.Core.Bool.{true, false, cond}
-use Prim.Native.Nat.{ℕ, suc, _+_, _-_, _≤_}
+use mathlib.Core.Bool.{true}
+use Prim.Native.Nat.{ℕ, _-_, _≤_}
 use native.Mathlib.Numerals.{add-one}
 use Rattle.rules.specs.Job.{Bytes}
 use lib.ListN.{length, length-replicate}
@@ -10,7 +10,6 @@ use Rattle.graph.specs.Below.{sum}
 use Rattle.alignment.specs.Lines.{lineStart}
 use Rattle.alignment.specs.Sequences.{opened}
 use Rattle.alignment.specs.Answers.{refuses}
-use Rattle.alignment.specs.Refusals.{faultAt}
 use Rattle.alignment.specs.Read.{AtByte, lengthsTo, CountedTo}
 use Rattle.alignment.proofs.Faults.{Clear, few-opened}
 use Rattle.alignment.proofs.Counted.{lengths-none, lengths-length, fault-left, passed-left}

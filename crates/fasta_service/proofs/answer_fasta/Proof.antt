@@ -1,11 +1,9 @@
--- `fasta_service::answer_fasta` meets its contract: each of its three ends leaves what Left.antt says.
-use mathlib.Core.Path.{_≡_, sym, ap, _∙_}
-use Prim.Native.Nat.{ℕ}
-use lib.ListN.{length-replicate}
+-- `fasta_service::answer_fasta` meets its contract: each of its two ends leaves what Left.antt says.
+use mathlib.Core.Path.{sym, ap, _∙_}
 use lib.Seq.{length-take-le}
 use Rattle.alignment.specs.Answers.{madeNumber, madePlace}
 use Rattle.fasta.proofs.Ready.{Ready, ready, not-ready}
-use Rattle.fasta_service.proofs.Left.{job-left, room-left, refusal-left}
+use Rattle.fasta_service.proofs.Left.{job-left, refusal-left}
 use borrow.Author.Needs.{needs}
 use native.Mathlib.Omega.{arith}
 use Rattle.fasta_service.proofs.answer_fasta.Statement.{statement}
@@ -47,31 +45,22 @@ returns c =
     let a = c .before .before in
     job-left _ _ (made (a .before .before .before)) (a .answer-text .ensures)
 
-clear-bytes-requires : tie.Need-clear-bytes-requires
-clear-bytes-requires c κs = search needs
+refusal-text-requires : tie.Need-refusal-text-requires
+refusal-text-requires c κs = search needs
+
+tell-text-requires : tie.Need-tell-text-requires
+tell-text-requires c κs = search needs
 
 same-length-2 : tie.Need-same-length-2
 same-length-2 c = search needs
 
 returns-2 : tie.Need-returns-2
 returns-2 c =
-    let clear = c .before .before .before .clear-bytes in
-    room-left _ _ (clear .ensures) (omega arith)
-
-put-refusal-requires : tie.Need-put-refusal-requires
-put-refusal-requires c κs = search needs
-
-same-length-3 : tie.Need-same-length-3
-same-length-3 c = search needs
-
-returns-3 : tie.Need-returns-3
-returns-3 c =
-    let put = c .before .before in
-    let clear = put .before .before .before .before .before in
-    let told = clear .before .before .before .before in
-    let m = not-ready (told .before .before .make-job .ensures) (omega arith) (λ z. clear .before .before .if1 .left (told .tell-made .ensures .number-is ∙ z)) in
-    refusal-left _ _ (clear .clear-bytes .ensures) (omega arith) (m .1) (told .tell-made .ensures .number-is ∙ ap madeNumber (m .0))
-    (told .tell-made .ensures .place-is ∙ ap madePlace (m .0)) (put .put-refusal .ensures)
+    let line = c .before .before .before in
+    let told = line .before .before .before .before in
+    let m = not-ready (told .before .before .make-job .ensures) (omega arith) (λ z. line .before .before .if1 .left (told .tell-made .ensures .number-is ∙ z)) in
+    refusal-left _ _ (m .1) (told .tell-made .ensures .number-is ∙ ap madeNumber (m .0)) (told .tell-made .ensures .place-is ∙ ap madePlace (m .0))
+    (line .refusal-text .ensures) (c .tell-text .ensures .used-is)
 
 pub answer-fasta-spec : {M : Type 1} → statement M
 answer-fasta-spec =
@@ -85,9 +74,7 @@ answer-fasta-spec =
     answer-text-requires
     same-length
     returns
-    clear-bytes-requires
+    refusal-text-requires
+    tell-text-requires
     same-length-2
-    returns-2
-    put-refusal-requires
-    same-length-3
-    returns-3)
+    returns-2)

@@ -2,91 +2,90 @@
 use mathlib.Core.Path.{_≡_, sym, _∙_}
 use Prim.Native.Nat.{_≤_}
 use lib.ListN.{length}
-use borrow.Author.Tests.{not-true, not-false}
+use borrow.Author.Tests.{leb-true, leb-false, not-true, not-false}
 use Rattle.rules.specs.Answers.{number}
 use Rattle.text.specs.Printed.{textRoom}
-use Rattle.text.proofs.Left.{room-left, refusal-left, block-left, network-left}
+use Rattle.text.proofs.Left.{refusal-left, room-left, block-left, network-left}
+use borrow.Author.Needs.{needs}
+use native.Mathlib.Omega.{arith}
 use Rattle.text.proofs.text.Statement.{statement}
 use Rattle.text.proofs.text.Tie as tie
 
--- The entry, seen from behind the test of the room, and what that test says.
-abbrev s1 : tie.Else1 → tie.Start
-s1 c = c .before .before .before .before .before .before .before .before
-
-enough : (c : tie.Else1) → textRoom ≤ length (s1 c .args .out .now)
-enough c = rw (c .before .before .before .clear-bytes .kept .0) at (c .if1 .left)
-
 -- A network is to be printed.
-found : (c : tie.Else2) → number (s1 (c .before .before .before) .args .answer) ≡ 0
-found c = sym (c .before .before .tell .ensures .number-is) ∙ c .if2 .left
+abbrev entry : tie.Else1 → tie.Start
+entry c = c .before .before .before .before .before .before
 
-clear-bytes-requires : tie.Need-clear-bytes-requires
-clear-bytes-requires c κs = tt
+found : (c : tie.Else1) → number (entry c .args .answer) ≡ 0
+found c = sym (c .before .before .tell .ensures .number-is) ∙ c .if1 .left
+
+-- There is room for it.
+enough : (c : tie.Else2) → textRoom ≤ length (entry (c .before .before .before .before .before) .args .out .now)
+enough c = leb-true textRoom _ (sym (c .before .before .before .make-room .ensures .1) ∙ not-false _ (c .if2 .left))
+
+tell-requires : tie.Need-tell-requires
+tell-requires c κs = search needs
+
+refusal-text-requires : tie.Need-refusal-text-requires
+refusal-text-requires c κs = search needs
 
 same-length : tie.Need-same-length
-same-length c = c .before .before .before .clear-bytes .kept .0
+same-length c = search needs
 
 returns : tie.Need-returns
 returns c =
-    let clear = c .before .before .before .clear-bytes in
-    room-left _ _ _ _ (clear .ensures) (rw (clear .kept .0) at (c .if1 .taken))
+    let then = c .before .before .before .before in
+    let told = then .before .before .tell .ensures in
+    refusal-left _ _ _ _ (told .number-is) (told .place-is) (then .if1 .taken) (c .before .before .refusal-text .ensures)
 
-tell-requires : tie.Need-tell-requires
-tell-requires c κs = tt
-
-put-refusal-requires : tie.Need-put-refusal-requires
-put-refusal-requires c κs = c .before .before .before .before .if1 .left
+make-room-requires : tie.Need-make-room-requires
+make-room-requires c κs = search needs
 
 same-length-2 : tie.Need-same-length-2
-same-length-2 c =
-    let put = c .before .before in
-    put .put-refusal .kept .1 .1 .0 ∙ put .before .before .before .before .before .before .before .before .clear-bytes .kept .0
+same-length-2 c = search needs
 
 returns-2 : tie.Need-returns-2
 returns-2 c =
-    let then = c .before .before .before .before in
-    let told = then .before .before in
-    refusal-left _ _ _ _ (told .before .before .before .before .clear-bytes .ensures) (enough (told .before)) (told .tell .ensures .number-is)
-    (told .tell .ensures .place-is) (then .if2 .taken) (c .before .before .put-refusal .ensures)
+    let room = c .before .before .before in
+    room-left _ _ _ _ (room .make-room .ensures .0) (found (room .before .before)) (leb-false textRoom _ (sym (room .make-room .ensures .1) ∙ not-true _ (c .if2 .taken)))
 
 is-legible-requires : tie.Need-is-legible-requires
-is-legible-requires c κs = tt
+is-legible-requires c κs = search needs
 
 same-length-3 : tie.Need-same-length-3
-same-length-3 c = c .before .before .before .before .before .before .before .before .clear-bytes .kept .0
+same-length-3 c = search needs
 
 returns-3 : tie.Need-returns-3
 returns-3 c =
-    let room = c .before .before .before .before .before in
-    block-left _ _ _ _ (room .before .before .before .clear-bytes .ensures) (enough room) (found (c .before .before))
-    (sym (c .before .is-legible .ensures) ∙ not-true _ (c .if3 .taken))
+    let test = c .before in
+    let room = test .before .before .before .before in
+    block-left _ _ _ _ (room .make-room .ensures .0) (found (room .before .before)) (enough (test .before))
+    (sym (test .is-legible .ensures) ∙ not-true _ (c .if3 .taken))
 
 put-network-requires : tie.Need-put-network-requires
 put-network-requires c κs =
     let test = c .before in
-    (sym (test .before .is-legible .ensures) ∙ not-false _ (test .if3 .left), test .before .before .before .before .before .if1 .left)
+    (sym (test .before .is-legible .ensures) ∙ not-false _ (test .if3 .left), omega (arith, enough (test .before .before)))
 
 same-length-4 : tie.Need-same-length-4
-same-length-4 c =
-    let put = c .before .before in
-    put .put-network .kept .1 .1 .0 ∙ put .before .before .before .before .before .before .before .before .before .before .clear-bytes .kept .0
+same-length-4 c = search needs
 
 returns-4 : tie.Need-returns-4
 returns-4 c =
-    let test = c .before .before .before .before in
+    let put = c .before .before in
+    let test = put .before .before in
     let room = test .before .before .before .before .before in
-    network-left _ _ _ _ (room .before .before .before .clear-bytes .ensures) (enough room) (found (test .before .before))
-    (sym (test .before .is-legible .ensures) ∙ not-false _ (test .if3 .left)) (c .before .before .put-network .ensures)
+    network-left _ _ _ _ (room .make-room .ensures .0) (found (room .before .before)) (enough (test .before .before))
+    (sym (test .before .is-legible .ensures) ∙ not-false _ (test .if3 .left)) (put .put-network .ensures)
 
 pub text-spec : {M : Type 1} → statement M
 text-spec =
     tie.close
     (tie.spec
-    clear-bytes-requires
+    tell-requires
+    refusal-text-requires
     same-length
     returns
-    tell-requires
-    put-refusal-requires
+    make-room-requires
     same-length-2
     returns-2
     is-legible-requires
