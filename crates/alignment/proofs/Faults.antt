@@ -4,17 +4,17 @@ use mathlib.Core.Bool.{Bool, true, false, cond, _&&_, and-eq-true-iff, true≢fa
 use mathlib.Core.List.{_++_}
 use Prim.Native.Nat.{ℕ, zero, suc, _+_, _-_, _≤_, _<_}
 use native.Mathlib.Omega.{arith}
-use lib.Dec.{eqb}
+use lib.Dec.{ltb, eqb}
 use lib.ListN.{length, length-append}
 use borrow.Author.Tests.{lt-ltb, le-ltb, eq-eqb, ne-eqb, ltb-false, eqb-true}
 use Rattle.graph.specs.Below.{gather, only, sum}
-use Rattle.graph.proofs.Below.{In, in-gather, in-only, sum-more}
+use Rattle.graph.proofs.Below.{In, in-gather, in-only, sum-more, first-before, first-hits}
 use Rattle.rules.specs.Job.{Bytes, outside}
 use Rattle.rules.proofs.Job.{Within, within}
 use Rattle.alignment.specs.Lines.{byteAt, opens, isState}
 use Rattle.alignment.specs.Sequences.{opened, inSequence, joined}
 use Rattle.alignment.specs.Answers.{refuses, when_refuse_else_, passed}
-use Rattle.alignment.specs.Refusals.{beforeFirst, inSome, badByte, held, oneTooWide, oneTooMany, faultAt}
+use Rattle.alignment.specs.Refusals.{beforeFirst, inSome, badByte, held, oneTooWide, oneTooMany, faultAt, firstFault}
 use Rattle.alignment.specs.declared.Made.{Made}
 use Rattle.alignment.specs.declared.Made.the-variants.{Before, Byte, Wide, Many}
 use Rattle.alignment.proofs.Lines.{no-opener}
@@ -84,6 +84,15 @@ no-fault text i e =
 -- No fault before a byte.
 abbrev pub Clear : Bytes → ℕ → Type 0
 Clear text i = (j : ℕ) → j < i → refuses (faultAt text j) ≡ false
+
+-- The first fault is one, and where there is none every byte is clear.
+pub fault-there : (text : Bytes) → firstFault text < length text → refuses (faultAt text (firstFault text)) ≡ true
+unfolding firstFault
+fault-there text = first-hits (length text) (λ i. refuses (faultAt text i))
+
+pub all-clear : (text : Bytes) → ltb (firstFault text) (length text) ≡ false → Clear text (length text)
+unfolding firstFault
+all-clear text e i h = first-before (length text) (λ i. refuses (faultAt text i)) i (omega (arith, ltb-false (firstFault text) (length text) e))
 
 pub opened-more : (text : Bytes) (i : ℕ) → opened text (i + 1) ≡ opened text i + cond (opens text i) 1 0
 opened-more text i = sum-more i (λ j. cond (opens text j) 1 0)

@@ -1,19 +1,19 @@
 -- What is known of a text that is not refused.
 use mathlib.Core.Path.{_≡_, refl}
-use mathlib.Core.Bool.{Bool, true, false, not}
+use mathlib.Core.Bool.{Bool, false, not}
 use Prim.Native.Nat.{ℕ, _≤_, _<_}
 use native.Mathlib.Omega.{arith}
 use lib.Dec.{ltb, eqb}
 use lib.ListN.{length}
 use borrow.Author.Tests.{ltb-true, ltb-false, eqb-true, eqb-false, not-false}
 use Rattle.graph.specs.Below.{first}
-use Rattle.graph.proofs.Below.{first-before, first-hits}
+use Rattle.graph.proofs.Below.{first-before}
 use Rattle.rules.specs.Job.{Bytes}
 use Rattle.alignment.specs.Sequences.{sequences, sequence}
 use Rattle.alignment.specs.Answers.{refuses, passed}
 use Rattle.alignment.specs.Refusals.{faultAt, firstFault, firstEmpty, firstUneven, measured}
 use Rattle.alignment.specs.declared.Made.the-variants.{Empty, Uneven}
-use Rattle.alignment.proofs.Faults.{Clear, not-refused, few-opened, few-states}
+use Rattle.alignment.proofs.Faults.{Clear, not-refused, fault-there, all-clear, few-opened, few-states}
 
 -- Each test of the text passes it.
 record Tested (text : Bytes) : Type 0 where
@@ -23,11 +23,10 @@ record Tested (text : Bytes) : Type 0 where
   alike : ltb (firstUneven text) (sequences text) ≡ false
 
 tested : (text : Bytes) → refuses (measured text) ≡ false → Tested text
-unfolding measured firstFault
+unfolding measured
 tested text e =
     let at = firstFault text in
-    let hits : at < length text → refuses (faultAt text at) ≡ true = first-hits (length text) (λ i. refuses (faultAt text i)) in
-    let s1 = not-refused (ltb at (length text)) (faultAt text at) _ e (λ t. hits (ltb-true at (length text) t)) in
+    let s1 = not-refused (ltb at (length text)) (faultAt text at) _ e (λ t. fault-there text (ltb-true at (length text) t)) in
     let s2 = not-refused (eqb (sequences text) 0) (Empty 0) _ (s1 .1) (λ t. refl) in
     let s3 = not-refused (ltb (firstEmpty text) (sequences text)) (Empty (firstEmpty text)) _ (s2 .1) (λ t. refl) in
     let s4 = not-refused (ltb (firstUneven text) (sequences text)) (Uneven (firstUneven text)) passed (s3 .1) (λ t. refl) in
@@ -50,11 +49,11 @@ pub record Readable (text : Bytes) : Type 0 where
   pub even : (k : ℕ) → k < sequences text → length (sequence text k) ≡ length (sequence text 0)
 
 pub readable : (text : Bytes) → refuses (measured text) ≡ false → Readable text
-unfolding firstFault firstEmpty firstUneven
+unfolding firstEmpty firstUneven
 readable text e =
     let t = tested text e in
     let n = sequences text in
-    let faultless : Clear text (length text) = none-below (length text) (λ i. refuses (faultAt text i)) (t .faultless) in
+    let faultless = all-clear text (t .faultless) in
     let one : 1 ≤ n = omega (arith, eqb-false n 0 (t .begun)) in
     let filled = none-below n (λ k. eqb (length (sequence text k)) 0) (t .filled) in
     let alike = none-below n (λ k. not (eqb (length (sequence text k)) (length (sequence text 0)))) (t .alike) in

@@ -3,12 +3,11 @@ use mathlib.Core.Path.{_≡_, refl, sym, ap, _∙_}
 use mathlib.Core.Logic.{_≢_}
 use mathlib.Core.Bool.{Bool, true, false, not, false≢true}
 use Prim.Native.Nat.{ℕ, zero, suc, _≤_, _<_}
-use native.Mathlib.Nat.{le-antisymm}
 use native.Mathlib.Omega.{arith}
 use native.Mathlib.Decide.{ℕ-discrete, decLe}
 use lib.Dec.{ltb, eqb}
 use lib.ListN.{length, getD}
-use borrow.Author.Tests.{lt-ltb, le-ltb, eq-eqb, ne-eqb, ltb-true, ltb-false}
+use borrow.Author.Tests.{lt-ltb, le-ltb, eq-eqb, ne-eqb, ltb-true}
 use Rattle.graph.specs.Below.{first}
 use Rattle.graph.proofs.Below.{first-le, first-before, first-hits, first-is}
 use Rattle.rules.specs.Job.{Bytes, outside}
@@ -20,8 +19,9 @@ use Rattle.alignment.specs.declared.Made.{Made}
 use Rattle.alignment.specs.declared.Made.the-variants.{Empty, Uneven}
 use Rattle.alignment.specs.declared.Reading.{Reading}
 use Rattle.alignment.specs.declared.Measured.{Measured}
-use Rattle.alignment.proofs.Faults.{Clear, not-refused, few-opened, few-states}
+use Rattle.alignment.proofs.Faults.{Clear, not-refused, fault-there, all-clear, few-opened, few-states}
 use Rattle.alignment.proofs.Counted.{lengths-length, lengths-at}
+use Rattle.alignment.proofs.Answered.{no-first-fault}
 
 -- ── Bounds ──
 
@@ -57,20 +57,16 @@ module _ (text : Bytes) {lengths : Bytes} {r : Reading} (read : ReadAll text len
       go false e = absurd (false≢true (sym (ap refuses (read .answer-is) ∙ rw e) ∙ t))
 
   module _ (e : refuses (r .answer) ≡ false) where
-    to-end : firstFault text ≡ length text
-    unfolding firstFault
-    to-end =
-        let at = firstFault text in
-        let hits : at < length text → refuses (faultAt text at) ≡ true = first-hits (length text) (λ i. refuses (faultAt text i)) in
-        let none = not-refused (ltb at (length text)) (faultAt text at) passed (rw (read .answer-is) at e) (λ t. hits (ltb-true at (length text) t)) in
-        le-antisymm (first-le (length text) _) (ltb-false at (length text) (none .0))
-
     faultless : ltb (firstFault text) (length text) ≡ false
-    faultless = le-ltb (firstFault text) (length text) (omega (arith, to-end))
+    faultless =
+        let at = firstFault text in
+        not-refused (ltb at (length text)) (faultAt text at) passed (rw (read .answer-is) at e) (λ t. fault-there text (ltb-true at (length text) t)) .0
 
     clear : Clear text (length text)
-    unfolding firstFault
-    clear j h = first-before (length text) (λ i. refuses (faultAt text i)) j (omega (arith, to-end))
+    clear = all-clear text faultless
+
+    to-end : firstFault text ≡ length text
+    to-end = no-first-fault text clear
 
     pub rows-are : r .begun ≡ sequences text
     rows-are = read .begun-is ∙ rw to-end

@@ -1,9 +1,9 @@
 -- `alignment::ends_line` meets its contract: past the end there is no LF.
 use Prim.Native.Nat.{_+_}
+use native.Mathlib.Omega.{arith}
 use lib.ListN.{List·getD-eq-default}
 use borrow.Author.Tests.{eq-eqb, ne-eqb}
 use borrow.Author.Needs.{needs}
-use native.Mathlib.Omega.{arith}
 use Rattle.alignment.proofs.ends_line.Statement.{statement}
 use Rattle.alignment.proofs.ends_line.Tie as tie
 

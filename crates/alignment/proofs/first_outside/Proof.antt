@@ -2,13 +2,13 @@
 use mathlib.Core.Path.{_≡_, sym, _∙_}
 use mathlib.Core.Bool.{false}
 use Prim.Native.Nat.{ℕ, _-_, _≤_, _<_}
+use native.Mathlib.Omega.{arith}
 use lib.ListN.{getD}
 use mir.Facts.{fits-8-64}
 use borrow.Author.Count.{below-none, below-more}
+use borrow.Author.Needs.{needs}
 use Rattle.graph.proofs.Below.{first-is}
 use Rattle.rules.specs.Job.{outside}
-use borrow.Author.Needs.{needs}
-use native.Mathlib.Omega.{arith}
 use Rattle.alignment.proofs.first_outside.Statement.{statement}
 use Rattle.alignment.proofs.first_outside.Tie as tie
 

@@ -1,8 +1,8 @@
 -- `alignment::is_state` meets its contract: a line starts no later than its bytes.
-use borrow.Author.Tests.{eq-eqb, ne-eqb}
-use Rattle.alignment.proofs.Lines.{start-within}
-use borrow.Author.Needs.{needs}
 use native.Mathlib.Omega.{arith}
+use borrow.Author.Tests.{eq-eqb, ne-eqb}
+use borrow.Author.Needs.{needs}
+use Rattle.alignment.proofs.Lines.{start-within}
 use Rattle.alignment.proofs.is_state.Statement.{statement}
 use Rattle.alignment.proofs.is_state.Tie as tie
 

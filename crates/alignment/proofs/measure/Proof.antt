@@ -1,11 +1,11 @@
 -- `alignment::measure` meets its contract: the lengths that were counted tell what else is refused.
 use mathlib.Core.Path.{_≡_, refl}
 use mathlib.Core.Bool.{false}
+use native.Mathlib.Omega.{arith}
+use borrow.Author.Needs.{needs}
 use Rattle.alignment.specs.Answers.{refuses}
 use Rattle.alignment.proofs.Answered.{refuses-told, passes-told}
 use Rattle.alignment.proofs.Sizes.{fault-measured, rows-are, rows-within, length-at, narrow, passes-on, none-measured, empty-measured, uneven-measured, even-measured, refused-as, sized-as}
-use borrow.Author.Needs.{needs}
-use native.Mathlib.Omega.{arith}
 use Rattle.alignment.proofs.measure.Statement.{statement}
 use Rattle.alignment.proofs.measure.Tie as tie
 
@@ -58,7 +58,8 @@ returns-3 c =
     let first = three .before in
     let two = first .before .before in
     let e = two .before in
-    refused-as _ (empty-measured _ (reading e .read .ensures) (whole e) (two .if2 .left) _ (first .first-outside .ensures) (three .if3 .taken)) refl (c .refused3 .ensures)
+    let m = empty-measured _ (reading e .read .ensures) (whole e) (two .if2 .left) _ (first .first-outside .ensures) (three .if3 .taken) in
+    refused-as _ m refl (c .refused3 .ensures)
 
 array-read-width : tie.Need-array-read-width
 array-read-width c = search needs
@@ -83,7 +84,8 @@ returns-4 c =
     let first = three .before in
     let two = first .before .before in
     let e = two .before in
-    let m = uneven-measured _ (reading e .read .ensures) (whole e) (two .if2 .left) _ (first .first-outside .ensures) (three .if3 .left) _ (second .first-outside2 .ensures) (four .if4 .taken) in
+    let m = uneven-measured _ (reading e .read .ensures) (whole e) (two .if2 .left) _ (first .first-outside .ensures)
+    (three .if3 .left) _ (second .first-outside2 .ensures) (four .if4 .taken) in
     refused-as _ m refl (c .refused4 .ensures)
 
 returns-5 : tie.Need-returns-5
@@ -94,7 +96,8 @@ returns-5 c =
     let two = first .before .before in
     let e = two .before in
     let read = reading e .read .ensures in
-    let m = even-measured _ read (whole e) (two .if2 .left) _ (first .first-outside .ensures) (three .if3 .left) _ (second .first-outside2 .ensures) (c .if4 .left) in
+    let m = even-measured _ read (whole e) (two .if2 .left) _ (first .first-outside .ensures)
+    (three .if3 .left) _ (second .first-outside2 .ensures) (c .if4 .left) in
     sized-as _ m (passes-on _ read (whole e)) (rows-are _ read (whole e)) (length-at _ read (whole e) 0 (omega arith))
 
 pub measure-spec : {M : Type 1} → statement M

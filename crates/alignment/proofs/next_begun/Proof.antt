@@ -2,10 +2,10 @@
 use mathlib.Core.Path.{_≡_, sym, ap, _∙_}
 use mathlib.Core.Bool.{Bool, true, false, cond}
 use Prim.Native.Nat.{_+_}
+use native.Mathlib.Omega.{arith}
+use borrow.Author.Needs.{needs}
 use Rattle.alignment.specs.Sequences.{opened}
 use Rattle.alignment.proofs.Faults.{opened-more}
-use borrow.Author.Needs.{needs}
-use native.Mathlib.Omega.{arith}
 use Rattle.alignment.proofs.next_begun.Statement.{statement}
 use Rattle.alignment.proofs.next_begun.Tie as tie
 

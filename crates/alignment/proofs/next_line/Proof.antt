@@ -1,8 +1,8 @@
 -- `alignment::next_line` meets its contract.
 use native.Mathlib.Numerals.{add-one}
 use borrow.Author.Tests.{eq-eqb, ne-eqb}
-use Rattle.alignment.specs.Lines.{lineStart}
 use borrow.Author.Needs.{needs}
+use Rattle.alignment.specs.Lines.{lineStart}
 use Rattle.alignment.proofs.next_line.Statement.{statement}
 use Rattle.alignment.proofs.next_line.Tie as tie
 

@@ -3,9 +3,11 @@ use mathlib.Core.Path.{_≡_, refl, sym, ap, _∙_}
 use mathlib.Core.Bool.{true}
 use Prim.Native.Nat.{ℕ, _-_, _≤_}
 use native.Mathlib.Numerals.{add-one}
-use Rattle.rules.specs.Job.{Bytes}
+use native.Mathlib.Omega.{arith}
 use lib.ListN.{length, length-replicate}
 use borrow.Author.Count.{below-none, below-more}
+use borrow.Author.Needs.{needs}
+use Rattle.rules.specs.Job.{Bytes}
 use Rattle.graph.specs.Below.{sum}
 use Rattle.alignment.specs.Lines.{lineStart}
 use Rattle.alignment.specs.Sequences.{opened}
@@ -14,8 +16,6 @@ use Rattle.alignment.specs.Read.{AtByte, lengthsTo, CountedTo}
 use Rattle.alignment.proofs.Faults.{Clear, few-opened}
 use Rattle.alignment.proofs.Counted.{lengths-none, lengths-length, fault-left, passed-left}
 use Rattle.alignment.proofs.Answered.{refuses-told, passes-told, read-fault, read-whole}
-use borrow.Author.Needs.{needs}
-use native.Mathlib.Omega.{arith}
 use Rattle.alignment.proofs.read.Statement.{statement}
 use Rattle.alignment.proofs.read.Tie as tie
 
@@ -70,7 +70,8 @@ returns : tie.Need-returns Inv-loop μ-loop
 returns c =
     let t = c .before .before .before .before .before in
     let l = t .before .before in
-    read-fault _ _ (l .loop-test .taken) (l .before .loop .inv .4) (t .take .ensures .fault-is) (fault c) (l .before .loop .inv .2) (fault-left _ _ (t .take .ensures) (fault c))
+    read-fault _ _ (l .loop-test .taken) (l .before .loop .inv .4) (t .take .ensures .fault-is) (fault c) (l .before .loop .inv .2)
+    (fault-left _ _ (t .take .ensures) (fault c))
 
 next-begun-requires : tie.Need-next-begun-requires Inv-loop μ-loop
 next-begun-requires c κs =

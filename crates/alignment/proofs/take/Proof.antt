@@ -1,12 +1,12 @@
 -- `alignment::take` meets its contract: a state goes its own way, and an opener may be one too many.
 use mathlib.Core.Path.{_≡_, refl, sym, _∙_}
 use mathlib.Core.Bool.{true, false}
+use native.Mathlib.Omega.{arith}
 use borrow.Author.Tests.{not-true, not-false}
+use borrow.Author.Needs.{needs}
 use Rattle.alignment.specs.Lines.{opens, isState}
 use Rattle.alignment.proofs.Faults.{skipped-passes, many-is, opener-passes}
 use Rattle.alignment.proofs.Counted.{lengths-same, taken-fault, taken-passed}
-use borrow.Author.Needs.{needs}
-use native.Mathlib.Omega.{arith}
 use Rattle.alignment.proofs.take.Statement.{statement}
 use Rattle.alignment.proofs.take.Tie as tie
 

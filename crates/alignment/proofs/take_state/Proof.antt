@@ -2,17 +2,17 @@
 use mathlib.Core.Path.{_≡_, refl, sym, _∙_}
 use mathlib.Core.Bool.{false}
 use Prim.Native.Nat.{ℕ, _-_, _≤_, _<_}
+use native.Mathlib.Omega.{arith}
 use lib.ListN.{length, getD}
 use mir.Facts.{fits-8-64}
 use borrow.Author.Tests.{leb-true, leb-false}
+use borrow.Author.Needs.{needs}
 use Rattle.rules.specs.Job.{outside}
 use Rattle.alignment.specs.Lines.{byteAt}
 use Rattle.alignment.specs.Sequences.{opened}
 use Rattle.alignment.specs.Refusals.{held}
 use Rattle.alignment.proofs.Faults.{before-is, byte-is, wide-is, state-passes}
 use Rattle.alignment.proofs.Counted.{taken-fault, taken-passed, counted-length, held-is, one-more}
-use borrow.Author.Needs.{needs}
-use native.Mathlib.Omega.{arith}
 use Rattle.alignment.proofs.take_state.Statement.{statement}
 use Rattle.alignment.proofs.take_state.Tie as tie
 

@@ -1,7 +1,7 @@
 -- `hurdlesong_fasta::answer_from` is safe: a text that was read whole lies within the mebibyte.
 use mathlib.Core.Path.{sym}
-use borrow.Author.Needs.{needs}
 use lib.Seq.{length-take-le}
+use borrow.Author.Needs.{needs}
 use Rattle.hurdlesong_fasta.proofs.answer_from.Statement.{statement}
 use Rattle.hurdlesong_fasta.proofs.answer_from.Tie as tie
 

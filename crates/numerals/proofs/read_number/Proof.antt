@@ -1,10 +1,10 @@
 -- `numerals::read_number` meets its contract. The invariant: the bytes passed are digits, and the value is what they write, of 16 bits
 -- so far. A value of more bits is refused at once, since further digits make it no smaller.
-use Prim.Native.Nat.{ℕ, _+_, _-_, _≤_, _<_}
 use mathlib.Core.Path.{_≡_, ap, _∙_}
+use Prim.Native.Nat.{ℕ, _+_, _-_, _≤_, _<_}
 use native.Mathlib.Omega.{arith}
-use borrow.Author.Count.{below-none, below-more}
 use lib.ListN.{length, getD}
+use borrow.Author.Count.{below-none, below-more}
 use Rattle.rules.proofs.Job.{Within}
 use Rattle.numerals.specs.Numeral.{valueOf}
 use Rattle.numerals.proofs.Digits.{value-none, value-more, value-grows, number-is, other-is}

@@ -1,12 +1,12 @@
 -- `text::refusal_text` meets its contract: with room and without.
 use mathlib.Core.Path.{sym, _∙_}
 use Prim.Native.Nat.{_≤_}
+use native.Mathlib.Omega.{arith}
 use lib.ListN.{length}
 use borrow.Author.Tests.{leb-true, leb-false, not-true, not-false}
+use borrow.Author.Needs.{needs}
 use Rattle.text.specs.Printed.{textRoom}
 use Rattle.text.proofs.Left.{no-room, line-left}
-use borrow.Author.Needs.{needs}
-use native.Mathlib.Omega.{arith}
 use Rattle.text.proofs.refusal_text.Statement.{statement}
 use Rattle.text.proofs.refusal_text.Tie as tie
 

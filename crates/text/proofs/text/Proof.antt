@@ -1,13 +1,13 @@
 -- `text::text` meets its contract: each of its four ends leaves what Left.antt says.
 use mathlib.Core.Path.{_≡_, sym, _∙_}
 use Prim.Native.Nat.{_≤_}
+use native.Mathlib.Omega.{arith}
 use lib.ListN.{length}
 use borrow.Author.Tests.{leb-true, leb-false, not-true, not-false}
+use borrow.Author.Needs.{needs}
 use Rattle.rules.specs.Answers.{number}
 use Rattle.text.specs.Printed.{textRoom}
 use Rattle.text.proofs.Left.{refusal-left, room-left, block-left, network-left}
-use borrow.Author.Needs.{needs}
-use native.Mathlib.Omega.{arith}
 use Rattle.text.proofs.text.Statement.{statement}
 use Rattle.text.proofs.text.Tie as tie
 
