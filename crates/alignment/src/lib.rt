@@ -15,7 +15,7 @@ use answers::Told;
 use answers::refusal;
 use contents::outside;
 
-// What a text is answered: a job block of so many bytes, or the refusals in their order.
+// What a text is answered: a job block of so many bytes, or the refusals 20 to 26 in their order.
 pub enum Made {
     Done { used: usize },
     Short,
