@@ -1,13 +1,13 @@
 -- What is left in the lent job, for each of the three ends of a call.
-use mathlib.Core.Path.{_≡_, refl, ap, _∙_}
+use mathlib.Core.Path.{_≡_, refl, _∙_}
 use mathlib.Core.Logic.{_≢_}
-use mathlib.Core.Bool.{true, false, not}
+use mathlib.Core.Bool.{true, false}
 use mathlib.Core.List.{_++_}
 use Prim.Native.Nat.{ℕ, _+_, _*_, _≤_, _<_}
 use native.Mathlib.Nat.{sub-zero}
 use native.Mathlib.Omega.{arith}
 use lib.ListN.{length, replicate}
-use borrow.Author.Tests.{lt-ltb, le-ltb, eq-eqb, ne-eqb}
+use borrow.Author.Tests.{lt-ltb, le-ltb}
 use Rattle.rules.specs.Job.{Bytes}
 use Rattle.rules.specs.Result.{words}
 use Rattle.rules.proofs.Block.{length-words, length-parts}
@@ -21,6 +21,7 @@ use Rattle.alignment.specs.Read.{MeasuredAs}
 use Rattle.alignment.specs.declared.Made.{Made}
 use Rattle.alignment.specs.declared.Made.the-variants.{Done, Short}
 use Rattle.alignment.specs.declared.Measured.{Measured}
+use Rattle.alignment.proofs.Answered.{refuses-told, passes-told}
 use Rattle.alignment.proofs.Joined.{states-joined}
 use Rattle.alignment.proofs.Readable.{readable}
 use Rattle.fasta.specs.Block.{headOf, weightsOf, jobOf}
@@ -42,7 +43,7 @@ pub record Sized (text : Bytes) (n m : ℕ) : Type 0 where
 
 pub sized : {text : Bytes} {size : Measured} → MeasuredAs text size → madeNumber (size .answer) ≡ 0 → Sized text (size .rows) (size .width)
 sized {text} {size} p e =
-    let f : refuses (measured text) ≡ false = ap not (eq-eqb (madeNumber (measured text)) 0 (rw (p .answer-is) at e)) in
+    let f : refuses (measured text) ≡ false = rw (p .answer-is) at (passes-told (size .answer) refl e) in
     let r = readable text f in
     let n : size .rows ≡ sequences text = p .rows-are ∙ rw f in
     let m : size .width ≡ widthOf text = p .width-is ∙ rw f in
@@ -78,7 +79,7 @@ module _ (text : Bytes) (e lent : ℕ) {zeros : Bytes} (z : zeros ≡ replicate 
     pub refusal-left : {a : Made} → a ≡ measured text → madeNumber a ≢ 0 → Turned text e lent zeros a
     unfolding turned
     refusal-left {a} a-is f =
-        let r : refuses a ≡ true = ap not (ne-eqb (madeNumber a) 0 f) in
+        let r = refuses-told a refl f in
         zeros-left (a-is ∙ rw (le-ltb lent jobRoom h, ← a-is, r)) r
 
     -- The head, and each part behind the one before.
