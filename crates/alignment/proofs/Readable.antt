@@ -32,10 +32,6 @@ tested text e =
     let s4 = not-refused (ltb (firstUneven text) (sequences text)) (Uneven (firstUneven text)) passed (s3 .1) (λ t. refl) in
     record { faultless = s1 .0; begun = s2 .0; filled = s3 .0; alike = s4 .0 }
 
-pub measured-is : (text : Bytes) → refuses (measured text) ≡ false → measured text ≡ passed
-unfolding measured
-measured-is text e = let t = tested text e in rw (t .faultless, t .begun, t .filled, t .alike)
-
 -- Where the first of n that passes is not below n, none does.
 none-below : (n : ℕ) (p : ℕ → Bool) → ltb (first n p) n ≡ false → (i : ℕ) → i < n → p i ≡ false
 none-below n p e i h = first-before n p i (omega (arith, ltb-false (first n p) n e))
