@@ -1,21 +1,22 @@
 -- The row lookup hands back states exactly if its conditions hold, and then those of the job's row or of the block's.
-use mathlib.Core.Path.{_≡_, refl, sym, ap, _∙_}
+use mathlib.Core.Path.{_≡_, refl, sym, ap}
 use mathlib.Core.Logic.{_↔_, _≢_}
 use mathlib.Core.Bool.{Bool, true, false}
 use mathlib.Core.List.{[]}
 use Prim.Native.Nat.{ℕ, _+_, _*_, _-_, _≤_, _<_}
 use native.Mathlib.Omega.{arith}
 use native.Mathlib.Decide.{decLt}
-use lib.ListN.{length, take, drop, length-drop}
-use lib.Seq.{length-take-le}
+use lib.ListN.{length, take, drop}
 use borrow.Author.Tests.{eq-eqb, le-leb}
 use Rattle.rules.specs.Job.{Bytes, rows, width}
 use Rattle.rules.specs.Result.{linksOffset}
 use Rattle.rules.specs.Lookup.{lookup}
 use Rattle.rules.proofs.Job.{passed-is}
 use Rattle.matching.specs.Match.{matches}
-use Rattle.matching.proofs.Match.{Matched, matched-is}
-use Rattle.lookup.proofs.Rows.{sampled-ends, inferred-ends, none-unmatched, none-past, none-sampled, found-sampled, none-inferred, found-inferred}
+use Rattle.matching.proofs.Match.{matched-is}
+use Rattle.lookup.specs.Places.{Points}
+use Rattle.lookup.proofs.Places.{in-job, in-result, no-states}
+use Rattle.lookup.proofs.Rows.{unmatched, past, sampled-out, sampled-row, inferred-out, inferred-row}
 use Rattle.claims.specs.Handed.{t, s, placeOf, Handed}
 
 module _ (job block : Bytes) (k : ℕ) where
@@ -36,27 +37,21 @@ module _ (job block : Bytes) (k : ℕ) where
       )
 
   module _ (h : Handed job block k) where
-    abbrev m : Matched job block
-    m = matched-is job block (handed-matches h)
+    row-sampled : k < s block → Points job block k (record { source = 1; at = 12 + 2 * width job + placeOf block k * width job; length = width job })
+    row-sampled l = sampled-row job block k (handed-matches h) (h .number-known) l refl refl (h .place-sampled l)
+
+    row-inferred : s block ≤ k → Points job block k (record { source = 2; at = 16 + 6 * t block + placeOf block k * width job; length = width job })
+    row-inferred l = inferred-row job block k (handed-matches h) (h .number-known) l refl refl refl (h .place-inferred l)
 
     pub handed-sampled : k < s block → lookup job block k ≡ take (width job) (drop (12 + 2 * width job + placeOf block k * width job) job)
-    handed-sampled l = sym (found-sampled job block k (handed-matches h) refl (h .number-known) refl refl l refl refl (h .place-sampled l))
+    handed-sampled l = sym (in-job (row-sampled l) refl)
 
     pub handed-inferred : s block ≤ k → lookup job block k ≡ take (width job) (drop (16 + 6 * t block + placeOf block k * width job) block)
-    handed-inferred l = sym (found-inferred job block k (handed-matches h) refl (h .number-known) refl refl l refl (h .place-inferred l))
-
-    -- A part that ends within the whole has its length.
-    part-length : (b : Bytes) (at n : ℕ) → at + n ≤ length b → length (take n (drop at b)) ≡ n
-    part-length b at n l = length-take-le n (drop at b) (rw length-drop (omega arith))
+    handed-inferred l = sym (in-result (row-inferred l) refl)
 
     -- So many states are handed back as the job's rows have, and there is at least one.
     pub handed-length : length (lookup job block k) ≡ width job
-    handed-length = elim (decLt k (s block)) [
-      | yes l ↦ ap length (handed-sampled l) ∙ part-length job _ (width job) (sampled-ends m refl refl (h .place-sampled l))
-      | no f ↦
-          let l : s block ≤ k = omega arith in
-          ap length (handed-inferred l) ∙ part-length block _ (width job) (inferred-ends m refl refl refl (h .place-inferred l))
-    ]
+    handed-length = sym (elim (decLt k (s block)) [ yes l ↦ row-sampled l .length-is | no f ↦ row-inferred (omega arith) .length-is ])
 
     handed-some : lookup job block k ≢ []
     handed-some e =
@@ -72,7 +67,7 @@ module _ (job block : Bytes) (k : ℕ) where
       matched e =
           let p = matched-is job block e in
           let h = p .header in
-          let known : k < t block = elim (decLt k (t block)) [ yes l ↦ l | no f ↦ absurd (n (sym (none-past job block k e refl (omega arith)))) ] in
+          let known : k < t block = elim (decLt k (t block)) [ yes l ↦ l | no f ↦ absurd (n (sym (no-states (past job block k e (omega arith)) refl))) ] in
           record {
             passes = p .pass;
             head = h .head;
@@ -87,17 +82,17 @@ module _ (job block : Bytes) (k : ℕ) where
             number-known = known;
             place-sampled = λ l. elim (decLt (placeOf block k) (rows job)) [
               | yes g ↦ g
-              | no f ↦ absurd (n (sym (none-sampled job block k e refl known refl refl l refl (omega arith))))
+              | no f ↦ absurd (n (sym (no-states (sampled-out job block k e known l (omega arith)) refl)))
             ];
             place-inferred = λ l. elim (decLt (placeOf block k) (t block - s block)) [
               | yes g ↦ g
-              | no f ↦ absurd (n (sym (none-inferred job block k e refl known refl refl l (omega arith))))
+              | no f ↦ absurd (n (sym (no-states (inferred-out job block k e known l (omega arith)) refl)))
             ];
           }
 
       matching : (b : Bool) → matches job block ≡ b → Handed job block k
       matching true e = matched e
-      matching false e = absurd (n (sym (none-unmatched job block k e)))
+      matching false e = absurd (n (sym (no-states (unmatched job block k e) refl)))
 
   pub handed-exactly : (lookup job block k ≢ []) ↔ Handed job block k
   handed-exactly = (some-handed, handed-some)
