@@ -4,6 +4,8 @@ ghost use mathlib.Core.Path.{_≡_};
 ghost use Rattle.answers.specs.Told.{Tells, ToldOf, firstOf};
 use rules::Answer;
 
+// Laid out as in C, since C programs are told of an answer so.
+#[repr(C)]
 pub struct Told {
     pub number: usize,
     pub place: usize,

@@ -26,7 +26,7 @@ use Rattle.demands.proofs.Drawn.{drawn}
 -- ── Leftovers ──
 
 -- Memory of the same lengths is lent alike.
-same-lengths : (a b : Memory) → SameLengths a b → lengthsOf a ≡ lengthsOf b
+pub same-lengths : (a b : Memory) → SameLengths a b → lengthsOf a ≡ lengthsOf b
 same-lengths a b s i = record {
   result = s .result-length i;
   states = s .states-length i;

@@ -5,7 +5,7 @@ use mathlib.Core.Logic.{_↔_, _≢_}
 use mathlib.Core.List.{List, []}
 use Prim.Native.Nat.{ℕ, _≤_, _<_}
 use lib.Dec.{T}
-use lib.ListN.{length, take, getD, replicate}
+use lib.ListN.{length, take, drop, getD, replicate}
 use Rattle.graph.specs.Below.{table}
 use Rattle.graph.proofs.Below.{in-at}
 use Rattle.rules.specs.Answers.{number, used, passed}
@@ -17,7 +17,7 @@ use Rattle.rules.specs.Round.{made}
 use Rattle.rules.specs.Run.{PhaseOne, phaseOne, phaseOneIn, Network}
 use Rattle.rules.specs.Result.{blockLength}
 use Rattle.rules.specs.Lookup.{lookup}
-use Rattle.rules.specs.Call.{found, verdict, answer, resultAfter}
+use Rattle.rules.specs.Call.{found, verdict, answer, padded, resultAfter}
 use Rattle.rules.specs.Text.{digits, decimal, printed}
 use Rattle.rules.specs.Cases.{all-hold, cases}
 use Rattle.rules.specs.declared.Answer.{Answer}
@@ -30,18 +30,23 @@ use Rattle.found.proofs.Found as network
 use Rattle.found.proofs.Result as result
 use Rattle.answers.specs.Told.{Tells}
 use Rattle.answers.specs.declared.Told.{Told}
-use Rattle.text.specs.Printed.{textOf, RefusalLeft, TextLeft}
+use Rattle.text.specs.Printed.{ToldText, textOf, printedBytes, RefusalLeft, TextLeft}
 use Rattle.text.specs.declared.Printed.{Printed}
 use Rattle.text.proofs.Once as text
-use Rattle.service.specs.Served.{Shown}
+use Rattle.service.specs.Served.{printedIn, Shown}
 use Rattle.service.proofs.Text as service
+use Rattle.lookup.specs.Places.{Points}
+use Rattle.lookup.specs.declared.Place.{Place}
+use Rattle.lookup.proofs.Places as places
+use Rattle.hurdlesong_c.specs.Interface.{TextTold}
+use Rattle.hurdlesong_c.proofs.Interface as interface
 use Rattle.alignment.specs.Answers.{madeNumber, madeUsed}
 use Rattle.alignment.specs.Sequences.{sequences, sequence}
 use Rattle.alignment.specs.declared.Made.{Made}
 use Rattle.fasta.specs.Turned.{Turned}
 use Rattle.demands.specs.Drawing.{Drawing}
 use Rattle.demands.specs.Refusals.{Condition, Turn}
-use Rattle.claims.specs.Calls.{Memory, SameLengths, lengthsOf, Calls, Serves}
+use Rattle.claims.specs.Calls.{Memory, SameLengths, lengthsOf, Calls, Serves, CallsTold}
 use Rattle.claims.specs.Formed.{NotForForm}
 use Rattle.claims.specs.Handed.{Handed}
 use Rattle.demands.proofs.Drawn as drawing
@@ -165,6 +170,42 @@ same-told n at bytes r r′ p q i = record {
   place = (p .place-is ∙ sym (q .place-is)) i;
   used = (p .used-is ∙ sym (q .used-is)) i;
 }
+
+-- ── From C and Rust (`CallTold`, `Points`, `TextTold`: the contracts of `hurdlesong_call`, `hurdlesong_states`, `hurdlesong_text`) ──
+
+-- What is told of a call is told of the answer that the call gives (`CallTold`), and depends on the job and the lengths lent alone.
+pub same-call-told : (job : Bytes) (before before′ after after′ : Memory) (r r′ : Told) → SameLengths before before′ →
+    CallsTold job before r after → CallsTold job before′ r′ after′ → (r ≡ r′) × (after ≡ after′)
+same-call-told job before before′ after after′ r r′ s a b =
+    let told = rw (← calls.same-lengths before before′ s) at (b .told) in
+    (same-told _ _ _ r r′ (a .told) told, calls.same-memory job before before′ after after′ _ _ s (a .called) (b .called))
+
+module _ (job block : Bytes) (k : ℕ) (r : Place) (told : Points job block k r) where
+  -- The states of the row lookup are those at the place told, in the job or in the result block; nowhere, there are none.
+  pub told-in-job : r .source ≡ 1 → take (r .length) (drop (r .at) job) ≡ lookup job block k
+  told-in-job = places.in-job told
+
+  pub told-in-result : r .source ≡ 2 → take (r .length) (drop (r .at) block) ≡ lookup job block k
+  told-in-result = places.in-result told
+
+  pub told-nowhere : r .source ≡ 0 → [] ≡ lookup job block k
+  told-nowhere = places.no-states told
+
+  pub same-place : (r′ : Place) → Points job block k r′ → r ≡ r′
+  same-place r′ told′ = places.same-place told told′
+
+pub same-text-told : (job block : Bytes) (n at lent : ℕ) (out out′ : Bytes) (r r′ : Told) → TextTold job block n at lent out r →
+    TextTold job block n at lent out′ r′ → (out ≡ out′) × (r ≡ r′)
+same-text-told job block n at lent out out′ r r′ a b = (a .left ∙ sym (b .left), same-told _ _ _ r r′ (a .told) (b .told))
+
+-- A call, and then the text by the number and the place that were told: the text that document 01 prints, if there is room for every text.
+module _ (job : Bytes) (before after : Memory) (r t : Told) (lent : ℕ) (out : Bytes) (call : CallsTold job before r after)
+    (text : TextTold job (after .result) (r .number) (r .place) lent out t) where
+  pub told-text : ToldText (printedIn lent (printed (lengthsOf before) job)) t
+  told-text = interface.text-told call text
+
+  pub told-text-left : out ≡ padded lent (printedBytes (printedIn lent (printed (lengthsOf before) job)) (printed (lengthsOf before) job))
+  told-text-left = interface.text-left call text
 
 -- ── FASTA texts (`Turned`, the contract of `make_job`) ──
 

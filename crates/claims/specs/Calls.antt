@@ -1,5 +1,5 @@
 -- The public call as a whole: what is lent, before and after. The claims about it name `Called`, the contract of `call` in `network`,
--- and `ServedText`, that of `serve` in `service`.
+-- `ServedText`, that of `serve` in `service`, and `CallTold`, that of `hurdlesong_call` in `hurdlesong_c`.
 use mathlib.Core.Path.{_≡_}
 use mathlib.Core.List.{List}
 use Prim.Native.Nat.{ℕ}
@@ -8,9 +8,11 @@ use Rattle.rules.specs.Job.{Bytes}
 use Rattle.rules.specs.Lent.{Lent}
 use Rattle.rules.specs.declared.Answer.{Answer}
 use Rattle.rules.specs.declared.Link.{Link}
+use Rattle.answers.specs.declared.Told.{Told}
 use Rattle.text.specs.declared.Printed.{Printed}
 use Rattle.network.specs.Called.{lentBy, Called}
 use Rattle.service.specs.Served.{ServedText}
+use Rattle.hurdlesong_c.specs.Interface.{CallTold}
 
 -- The memory lent to one job after another: result, state area, distance area, link table.
 pub record Memory : Type 0 where
@@ -38,3 +40,8 @@ Calls job before r after =
 abbrev pub Serves : Bytes → Memory → Bytes → Printed → Memory → Bytes → Type 0
 Serves job before out r after out′ =
     ServedText job (before .result) (before .states) (before .distances) (before .links) out r (after .result) (after .states) (after .distances) (after .links) out′
+
+-- A job is called from C: what is told of the answer.
+abbrev pub CallsTold : Bytes → Memory → Told → Memory → Type 0
+CallsTold job before r after =
+    CallTold job (before .result) (before .states) (before .distances) (before .links) r (after .result) (after .states) (after .distances) (after .links)

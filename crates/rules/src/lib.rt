@@ -12,7 +12,8 @@ pub struct Kind {
     pub origin: Origin,
 }
 
-// A link: lower number, higher number, length.
+// A link: lower number, higher number, length. Laid out as in C, so that C programs can lend a table of them.
+#[repr(C)]
 pub struct Link {
     pub low: u16,
     pub high: u16,
