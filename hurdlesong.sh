@@ -32,13 +32,8 @@ if ! log=$(rt check "$program" 2>&1); then
     printf '%s\n' "$log" >&2
     exit 1
 fi
-# The program is for x86-64 Linux and is started by the toolchain's own loader; on another processor the toolchain's emulator runs it.
-kit=$(dirname "$(dirname "$(realpath "$(command -v rt)")")")
-tools=$kit/on/$(uname -m)/toolchain
-run=("$tools/lib/ld-linux-x86-64.so.2" --library-path "$tools/lib" "target/bin/$program")
-if [ -x "$tools/bin/qemu-x86_64" ]; then
-    run=("$tools/bin/qemu-x86_64" "${run[@]}")
-fi
+. scripts/runner.sh
+runner "$program"
 # The program itself has no exit status to set: it writes its answer to standard output, or says on standard error why there is none.
 answer=$(mktemp)
 trap 'rm -f "$answer"' EXIT
