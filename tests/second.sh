@@ -2,7 +2,8 @@
 # tests/second.sh [--jobs N] [--seed S]: generated jobs, answered by the proved program `worker` and by the second opinion in tests/second,
 # which was written from document 01 alone; whole answers are compared, byte by byte. The default is 10,000 jobs of seed 1. Before that the
 # second opinion passes its own tests: document 01's cases, each refusal's bounds, and facts tried by brute force. The program is proved and
-# built first where that is not done yet. The exit status is 0 only if every job was compared and none differs.
+# built first where that is not done yet. The exit status is 0 only if every job was compared and none differs. With --build alone the second
+# opinion is only built and passes its own tests.
 set -eu
 cd "$(dirname "$(realpath "$0")")/.."
 quietly() {
@@ -18,10 +19,11 @@ if ! command -v cargo > /dev/null; then
     echo "$0: cargo is missing; it is in Debian's package cargo" >&2
     exit 2
 fi
-quietly rt check worker
 package=(--quiet --release --offline --locked --manifest-path tests/second/Cargo.toml --target-dir target/second)
 quietly cargo test "${package[@]}"
 quietly cargo build "${package[@]}"
+[ "${1:-}" != --build ] || exit 0
+quietly rt check worker
 . scripts/runner.sh
 runner worker
 exec target/second/release/second "$@" "${run[@]}"

@@ -45,8 +45,8 @@ fn mixed(random: &mut Random) -> Vec<u8> {
         420..=499 => shapes::hubs(random),
         500..=569 => shapes::cube(random),
         570..=639 => shapes::wide_or_narrow(random),
-        640..=787 => shapes::strangers(random),
-        788..=799 => shapes::large(random),
+        640..=792 => shapes::strangers(random),
+        793..=799 => shapes::large(random),
         800..=819 => return damage::edge(random),
         _ => return damage::damaged(random),
     };
