@@ -1,27 +1,18 @@
--- What a text is answered, from what was read of it.
-use mathlib.Core.Path.{_≡_, sym, _∙_}
-use mathlib.Core.Logic.{_≢_}
-use mathlib.Core.Bool.{true, false}
+-- What was read of a text, up to its first fault.
+use mathlib.Core.Path.{_≡_, _∙_}
+use mathlib.Core.Bool.{true}
 use Prim.Native.Nat.{ℕ, _<_}
 use native.Mathlib.Omega.{arith}
 use lib.ListN.{length}
-use borrow.Author.Tests.{eq-eqb, ne-eqb, lt-ltb, le-ltb}
+use borrow.Author.Tests.{lt-ltb, le-ltb}
 use Rattle.graph.proofs.Below.{first-is}
 use Rattle.rules.specs.Job.{Bytes}
+use Rattle.made.specs.Answers.{refuses, passed}
+use Rattle.made.specs.declared.Made.{Made}
 use Rattle.alignment.specs.Sequences.{opened}
-use Rattle.alignment.specs.Answers.{madeNumber, refuses, passed}
 use Rattle.alignment.specs.Refusals.{faultAt, firstFault}
 use Rattle.alignment.specs.Read.{lengthsTo, ReadAll}
-use Rattle.alignment.specs.declared.Made.{Made}
 use Rattle.alignment.proofs.Faults.{Clear}
-
--- An answer refuses exactly if its number is not 0.
-module _ (made : Made) {n : ℕ} (is : n ≡ madeNumber made) where
-  pub refuses-told : n ≢ 0 → refuses made ≡ true
-  refuses-told h = rw (ne-eqb (madeNumber made) 0 (λ e. h (is ∙ e)))
-
-  pub passes-told : n ≡ 0 → refuses made ≡ false
-  passes-told e = rw (eq-eqb (madeNumber made) 0 (sym is ∙ e))
 
 -- Reading ends at the first fault, or behind the last byte.
 module _ (text : Bytes) where

@@ -9,12 +9,12 @@ use lib.Seq.{ext-getD, getD-set-same, getD-set-other}
 use Rattle.graph.specs.Below.{gather}
 use Rattle.graph.proofs.Below.{table-ext, length-table, getD-table}
 use Rattle.rules.specs.Job.{Bytes}
-use Rattle.alignment.specs.Lines.{isState}
+use Rattle.fasta_lines.specs.Lines.{isState}
+use Rattle.made.specs.Answers.{refuses, passed}
+use Rattle.made.specs.declared.Made.{Made}
 use Rattle.alignment.specs.Sequences.{opened, joined}
-use Rattle.alignment.specs.Answers.{refuses, passed}
 use Rattle.alignment.specs.Refusals.{held, faultAt}
 use Rattle.alignment.specs.Read.{lengthsTo, CountedTo, Taken}
-use Rattle.alignment.specs.declared.Made.{Made}
 use Rattle.alignment.proofs.Joined.{joined-state, joined-skipped, joined-other}
 
 pub lengths-length : (text : Bytes) (i : ℕ) → length (lengthsTo text i) ≡ 256

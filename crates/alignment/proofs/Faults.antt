@@ -11,13 +11,14 @@ use Rattle.graph.specs.Below.{gather, only, sum}
 use Rattle.graph.proofs.Below.{In, in-gather, in-only, sum-more, first-before, first-hits}
 use Rattle.rules.specs.Job.{Bytes, outside}
 use Rattle.rules.proofs.Job.{Within, within}
-use Rattle.alignment.specs.Lines.{byteAt, opens, isState}
+use Rattle.fasta_lines.specs.Lines.{byteAt, opens, isState}
+use Rattle.fasta_lines.proofs.Lines.{no-opener}
+use Rattle.made.specs.Answers.{refuses, when_refuse_else_, passed}
+use Rattle.made.specs.declared.Made.{Made}
+use Rattle.made.specs.declared.Made.the-variants.{Before, Byte, Wide, Many}
+use Rattle.made.proofs.Answers.{not-refused}
 use Rattle.alignment.specs.Sequences.{opened, inSequence, joined}
-use Rattle.alignment.specs.Answers.{refuses, when_refuse_else_, passed}
 use Rattle.alignment.specs.Refusals.{beforeFirst, inSome, badByte, held, oneTooWide, oneTooMany, faultAt, firstFault}
-use Rattle.alignment.specs.declared.Made.{Made}
-use Rattle.alignment.specs.declared.Made.the-variants.{Before, Byte, Wide, Many}
-use Rattle.alignment.proofs.Lines.{no-opener}
 
 -- ── Of a state ──
 
@@ -66,12 +67,6 @@ pub record NoFault (text : Bytes) (i : ℕ) : Type 0 where
   pub not-bad : badByte text i ≡ false
   pub not-wide : oneTooWide text i ≡ false
   pub not-many : oneTooMany text i ≡ false
-
--- Where no refusal is given the test did not refuse, nor does what is tried next.
-pub not-refused : (t : Bool) (a next : Made) → refuses (when t refuse a else next) ≡ false → (t ≡ true → refuses a ≡ true) →
-    (t ≡ false) × (refuses next ≡ false)
-not-refused true a next e h = absurd (true≢false (sym (h refl) ∙ e))
-not-refused false a next e h = (refl, e)
 
 pub no-fault : (text : Bytes) (i : ℕ) → refuses (faultAt text i) ≡ false → NoFault text i
 no-fault text i e =

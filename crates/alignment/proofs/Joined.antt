@@ -12,9 +12,9 @@ use borrow.Author.Tests.{eq-eqb, eqb-false}
 use Rattle.graph.specs.Below.{gather, only, sum}
 use Rattle.graph.proofs.Below.{is-false, gather-ext}
 use Rattle.rules.specs.Job.{Bytes, Row}
-use Rattle.alignment.specs.Lines.{byteAt, opens, isState}
+use Rattle.fasta_lines.specs.Lines.{byteAt, opens, isState}
+use Rattle.fasta_lines.proofs.Lines.{no-opener}
 use Rattle.alignment.specs.Sequences.{opened, inSequence, joined, sequences, sequence, states}
-use Rattle.alignment.proofs.Lines.{no-opener}
 use Rattle.alignment.proofs.Faults.{Clear, NoFault, no-fault, joined-more, in-some, second-false}
 
 -- ── One byte more ──

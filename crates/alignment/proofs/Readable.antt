@@ -9,11 +9,12 @@ use borrow.Author.Tests.{ltb-true, ltb-false, eqb-true, eqb-false, not-false}
 use Rattle.graph.specs.Below.{first}
 use Rattle.graph.proofs.Below.{first-before}
 use Rattle.rules.specs.Job.{Bytes}
+use Rattle.made.specs.Answers.{refuses, passed}
+use Rattle.made.specs.declared.Made.the-variants.{Empty, Uneven}
+use Rattle.made.proofs.Answers.{not-refused}
 use Rattle.alignment.specs.Sequences.{sequences, sequence}
-use Rattle.alignment.specs.Answers.{refuses, passed}
 use Rattle.alignment.specs.Refusals.{faultAt, firstFault, firstEmpty, firstUneven, measured}
-use Rattle.alignment.specs.declared.Made.the-variants.{Empty, Uneven}
-use Rattle.alignment.proofs.Faults.{Clear, not-refused, fault-there, all-clear, few-opened, few-states}
+use Rattle.alignment.proofs.Faults.{Clear, fault-there, all-clear, few-opened, few-states}
 
 -- Each test of the text passes it.
 record Tested (text : Bytes) : Type 0 where

@@ -11,15 +11,16 @@ use borrow.Author.Tests.{lt-ltb, le-ltb, eq-eqb, ne-eqb, ltb-true}
 use Rattle.graph.specs.Below.{first}
 use Rattle.graph.proofs.Below.{first-le, first-before, first-hits, first-is}
 use Rattle.rules.specs.Job.{Bytes, outside}
+use Rattle.made.specs.Answers.{refuses, passed}
+use Rattle.made.specs.declared.Made.{Made}
+use Rattle.made.specs.declared.Made.the-variants.{Empty, Uneven}
+use Rattle.made.proofs.Answers.{not-refused}
 use Rattle.alignment.specs.Sequences.{sequences, sequence}
-use Rattle.alignment.specs.Answers.{refuses, passed}
 use Rattle.alignment.specs.Refusals.{faultAt, firstFault, firstEmpty, firstUneven, measured}
 use Rattle.alignment.specs.Read.{ReadAll, MeasuredAs}
-use Rattle.alignment.specs.declared.Made.{Made}
-use Rattle.alignment.specs.declared.Made.the-variants.{Empty, Uneven}
 use Rattle.alignment.specs.declared.Reading.{Reading}
 use Rattle.alignment.specs.declared.Measured.{Measured}
-use Rattle.alignment.proofs.Faults.{Clear, not-refused, fault-there, all-clear, few-opened, few-states}
+use Rattle.alignment.proofs.Faults.{Clear, fault-there, all-clear, few-opened, few-states}
 use Rattle.alignment.proofs.Counted.{lengths-length, lengths-at}
 use Rattle.alignment.proofs.Answered.{no-first-fault}
 

@@ -6,18 +6,12 @@ use lib.Dec.{ltb}
 use lib.ListN.{length}
 use Rattle.graph.specs.Below.{table}
 use Rattle.rules.specs.Job.{Bytes}
-use Rattle.alignment.specs.Lines.{lineStart}
+use Rattle.made.specs.Answers.{refuses, when_refuse_else_, passed}
+use Rattle.made.specs.declared.Made.{Made}
 use Rattle.alignment.specs.Sequences.{opened, joined, sequences, sequence}
-use Rattle.alignment.specs.Answers.{refuses, when_refuse_else_, passed}
 use Rattle.alignment.specs.Refusals.{faultAt, firstFault, measured}
-use Rattle.alignment.specs.declared.Made.{Made}
 use Rattle.alignment.specs.declared.Reading.{Reading}
 use Rattle.alignment.specs.declared.Measured.{Measured}
-
--- Byte i is one of the text, and its line starts at `line`.
-pub record AtByte (text : Bytes) (line i : ℕ) : Type 0 where
-  pub starts : line ≡ lineStart text i
-  pub within : i < length text
 
 -- How many states each of the 256 sequences has before a byte.
 unfoldable pub lengthsTo : Bytes → ℕ → Bytes

@@ -5,11 +5,11 @@ use lib.Dec.{ltb, eqb}
 use lib.ListN.{length}
 use Rattle.graph.specs.Below.{first}
 use Rattle.rules.specs.Job.{Bytes, outside}
-use Rattle.alignment.specs.Lines.{byteAt, opens, isState}
+use Rattle.fasta_lines.specs.Lines.{byteAt, opens, isState}
+use Rattle.made.specs.Answers.{refuses, when_refuse_else_, passed}
+use Rattle.made.specs.declared.Made.{Made}
+use Rattle.made.specs.declared.Made.the-variants.{Before, Byte, Wide, Many, Empty, Uneven}
 use Rattle.alignment.specs.Sequences.{opened, joined, sequences, sequence}
-use Rattle.alignment.specs.Answers.{refuses, when_refuse_else_, passed}
-use Rattle.alignment.specs.declared.Made.{Made}
-use Rattle.alignment.specs.declared.Made.the-variants.{Before, Byte, Wide, Many, Empty, Uneven}
 
 -- ── Met in reading order, placed by byte ──
 

@@ -5,7 +5,7 @@ use lib.Dec.{eqb}
 use lib.ListN.{length}
 use Rattle.graph.specs.Below.{gather, only, count}
 use Rattle.rules.specs.Job.{Bytes, Row}
-use Rattle.alignment.specs.Lines.{byteAt, opens, isState}
+use Rattle.fasta_lines.specs.Lines.{byteAt, opens, isState}
 
 -- How many sequences are opened before a byte.
 abbrev pub opened : Bytes → ℕ → ℕ

@@ -1,101 +1,20 @@
-// The room of a FASTA text: which of its bytes open a sequence and which are states, how long its sequences are, and the refusals 21 to 26.
-// The text is only read.
+// The room of the sequences of a FASTA text: how many there are, how long they are, and the refusals 21 to 26. The text is only read.
 
 ghost use mathlib.Core.Path.{_≡_};
 ghost use mathlib.Core.Bool.{true};
-ghost use Prim.Native.Nat.{_+_, _≤_, _<_};
+ghost use Prim.Native.Nat.{_+_, _≤_};
 ghost use lib.ListN.{length, getD, replicate};
 ghost use Rattle.graph.specs.Below.{first};
 ghost use Rattle.rules.specs.Job.{outside};
-ghost use Rattle.alignment.specs.Answers.{ToldMade};
-ghost use Rattle.alignment.specs.Lines.{endsLine, lineStart, opens, isState};
+ghost use Rattle.fasta_lines.specs.Lines.{isState, AtByte};
 ghost use Rattle.alignment.specs.Sequences.{opened};
-ghost use Rattle.alignment.specs.Read.{AtByte, CountedTo, Taken, ReadAll, MeasuredAs};
-use answers::Told;
-use answers::refusal;
+ghost use Rattle.alignment.specs.Read.{CountedTo, Taken, ReadAll, MeasuredAs};
 use contents::outside;
-
-// What a text is answered: a job block of so many bytes, or the refusals 20 to 26 in their order.
-pub enum Made {
-    Done { used: usize },
-    Short,
-    Before { place: usize },
-    Byte { place: usize },
-    Wide { place: usize },
-    Many { place: usize },
-    Empty { place: usize },
-    Uneven { place: usize },
-}
-
-// Its number, its place, and the bytes used.
-pub fn tell_made(made: Made) -> Told
-    ensures { λ r. ⌜ ToldMade made r ⌝ }
-{
-    match made {
-        Made::Done { used } => Told {
-            number: 0,
-            place: 0,
-            used,
-        },
-        Made::Short => refusal(20, 0),
-        Made::Before { place } => refusal(21, place),
-        Made::Byte { place } => refusal(22, place),
-        Made::Wide { place } => refusal(23, place),
-        Made::Many { place } => refusal(24, place),
-        Made::Empty { place } => refusal(25, place),
-        Made::Uneven { place } => refusal(26, place),
-    }
-}
-
-// Whether a byte belongs to the end of its line.
-fn ends_line(text: &[u8], i: usize) -> bool
-    requires { ⌜ i < length (now text) ⌝ }
-    ensures { λ r. ⌜ r ≡ endsLine (now (text .entry)) i ⌝ }
-{
-    if text[i] == b'\n' {
-        return true;
-    }
-    if text[i] != b'\r' {
-        return false;
-    }
-    if i + 1 == text.len() {
-        return false;
-    }
-    text[i + 1] == b'\n'
-}
-
-// Whether a byte opens a sequence. Here and below, `line` is where the line of byte i starts.
-fn opens(text: &[u8], line: usize, i: usize) -> bool
-    requires { ⌜ AtByte (now text) line i ⌝ }
-    ensures { λ r. ⌜ r ≡ opens (now (text .entry)) i ⌝ }
-{
-    if line != i {
-        return false;
-    }
-    text[line] == b'>'
-}
-
-// Whether a byte is a state.
-pub fn is_state(text: &[u8], line: usize, i: usize) -> bool
-    requires { ⌜ AtByte (now text) line i ⌝ }
-    ensures { λ r. ⌜ r ≡ isState (now (text .entry)) i ⌝ }
-{
-    if text[line] == b'>' {
-        return false;
-    }
-    !ends_line(text, i)
-}
-
-// Where the line of the next byte starts.
-pub fn next_line(text: &[u8], line: usize, i: usize) -> usize
-    requires { ⌜ AtByte (now text) line i ⌝ }
-    ensures { λ r. ⌜ r ≡ lineStart (now (text .entry)) (i + 1) ⌝ }
-{
-    if text[i] == b'\n' {
-        return i + 1;
-    }
-    line
-}
+use fasta_lines::is_state;
+use fasta_lines::next_line;
+use fasta_lines::opens;
+use made::Made;
+use made::tell_made;
 
 // How many sequences are opened before the next byte, when `begun` are before this one.
 fn next_begun(text: &[u8], line: usize, i: usize, begun: usize) -> usize

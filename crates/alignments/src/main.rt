@@ -3,9 +3,9 @@
 
 ghost use Prim.Native.Nat.{_≤_};
 ghost use lib.ListN.{length};
-use alignment::tell_made;
 use answers::Told;
 use fasta::make_job;
+use made::tell_made;
 use numerals::Numeral;
 use numerals::read_number;
 

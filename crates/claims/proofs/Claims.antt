@@ -40,9 +40,9 @@ use Rattle.lookup.specs.declared.Place.{Place}
 use Rattle.lookup.proofs.Places as places
 use Rattle.hurdlesong_c.specs.Interface.{TextTold}
 use Rattle.hurdlesong_c.proofs.Interface as interface
-use Rattle.alignment.specs.Answers.{madeNumber, madeUsed}
+use Rattle.made.specs.Answers.{madeNumber, madeUsed}
+use Rattle.made.specs.declared.Made.{Made}
 use Rattle.alignment.specs.Sequences.{sequences, sequence}
-use Rattle.alignment.specs.declared.Made.{Made}
 use Rattle.fasta.specs.Turned.{Turned}
 use Rattle.demands.specs.Drawing.{Drawing}
 use Rattle.demands.specs.Refusals.{Condition, Turn}

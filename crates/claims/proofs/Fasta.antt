@@ -16,9 +16,9 @@ use Rattle.rules.specs.Run.{Outcome, settled, full, phaseTwo, split}
 use Rattle.rules.specs.Call.{Verdict, refused, found, _then_, ended, outcome, verdict, answer, answerTo}
 use Rattle.rules.specs.declared.Answer.{Answer}
 use Rattle.rules.specs.declared.Answer.the-variants.{Area, Types, Split}
-use Rattle.alignment.specs.Answers.{madeNumber, madeUsed, refuses}
+use Rattle.made.specs.Answers.{madeNumber, madeUsed, refuses}
+use Rattle.made.specs.declared.Made.{Made}
 use Rattle.alignment.specs.Sequences.{sequences, sequence}
-use Rattle.alignment.specs.declared.Made.{Made}
 use Rattle.alignment.proofs.Readable.{readable}
 use Rattle.fasta.specs.Block.{jobOf}
 use Rattle.fasta.specs.Turned.{turned, jobAfter, Turned}

@@ -14,14 +14,14 @@ use Rattle.rules.proofs.Block.{length-words, length-parts}
 use Rattle.memory.specs.Placed.{placed, Follows}
 use Rattle.memory.proofs.Placed.{placed-padded}
 use Rattle.memory.proofs.Follows.{follows-once, follows-on}
+use Rattle.made.specs.Answers.{madeNumber, refuses}
+use Rattle.made.specs.declared.Made.{Made}
+use Rattle.made.specs.declared.Made.the-variants.{Done, Short}
+use Rattle.made.proofs.Answers.{refuses-told, passes-told}
 use Rattle.alignment.specs.Sequences.{sequences, sequence, states}
-use Rattle.alignment.specs.Answers.{madeNumber, refuses}
 use Rattle.alignment.specs.Refusals.{measured}
 use Rattle.alignment.specs.Read.{MeasuredAs}
-use Rattle.alignment.specs.declared.Made.{Made}
-use Rattle.alignment.specs.declared.Made.the-variants.{Done, Short}
 use Rattle.alignment.specs.declared.Measured.{Measured}
-use Rattle.alignment.proofs.Answered.{refuses-told, passes-told}
 use Rattle.alignment.proofs.Joined.{states-joined}
 use Rattle.alignment.proofs.Readable.{readable}
 use Rattle.fasta.specs.Block.{headOf, weightsOf, jobOf}

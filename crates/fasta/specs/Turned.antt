@@ -7,10 +7,10 @@ use lib.Dec.{ltb}
 use lib.ListN.{length}
 use Rattle.rules.specs.Job.{Bytes}
 use Rattle.rules.specs.Call.{padded}
-use Rattle.alignment.specs.Answers.{refuses, when_refuse_else_}
+use Rattle.made.specs.Answers.{refuses, when_refuse_else_}
+use Rattle.made.specs.declared.Made.{Made}
+use Rattle.made.specs.declared.Made.the-variants.{Done, Short}
 use Rattle.alignment.specs.Refusals.{measured}
-use Rattle.alignment.specs.declared.Made.{Made}
-use Rattle.alignment.specs.declared.Made.the-variants.{Done, Short}
 use Rattle.fasta.specs.Block.{jobOf}
 
 -- The job is lent 16,524 bytes or more.

@@ -4,7 +4,7 @@ use mathlib.Core.Bool.{true}
 use Prim.Native.Nat.{ℕ}
 use lib.ListN.{length, take}
 use Rattle.rules.specs.Job.{Bytes}
-use Rattle.alignment.specs.Answers.{madeNumber, madePlace, refuses}
+use Rattle.made.specs.Answers.{madeNumber, madePlace, refuses}
 use Rattle.alignment.specs.Refusals.{measured}
 use Rattle.fasta.proofs.Ready.{Ready}
 use Rattle.text.specs.Printed.{printedUsed, RefusalLeft}

@@ -4,7 +4,7 @@ use Prim.Native.Nat.{ℕ}
 use Rattle.rules.specs.Job.{Bytes}
 use Rattle.rules.specs.Lent.{least}
 use Rattle.rules.specs.Text.{printed}
-use Rattle.alignment.specs.Answers.{madeNumber, madePlace, refuses}
+use Rattle.made.specs.Answers.{madeNumber, madePlace, refuses}
 use Rattle.alignment.specs.Refusals.{measured}
 use Rattle.fasta.specs.Block.{jobOf}
 use Rattle.text.specs.Printed.{refusalOf}

@@ -2,8 +2,8 @@
 // the program for FASTA does, but for reading and writing.
 
 ghost use Rattle.fasta_service.specs.Printed.{FastaText};
-use alignment::tell_made;
 use fasta::make_job;
+use made::tell_made;
 use service::answer_text;
 use text::refusal_text;
 use text::tell_text;

@@ -3,8 +3,8 @@ use mathlib.Core.Path.{_≡_, refl}
 use mathlib.Core.Bool.{false}
 use native.Mathlib.Omega.{arith}
 use borrow.Author.Needs.{needs}
-use Rattle.alignment.specs.Answers.{refuses}
-use Rattle.alignment.proofs.Answered.{refuses-told, passes-told}
+use Rattle.made.specs.Answers.{refuses}
+use Rattle.made.proofs.Answers.{refuses-told, passes-told}
 use Rattle.alignment.proofs.Sizes.{fault-measured, rows-are, rows-within, length-at, narrow, passes-on, none-measured, empty-measured, uneven-measured, even-measured, refused-as, sized-as}
 use Rattle.alignment.proofs.measure.Statement.{statement}
 use Rattle.alignment.proofs.measure.Tie as tie

@@ -9,13 +9,14 @@ use borrow.Author.Count.{below-none, below-more}
 use borrow.Author.Needs.{needs}
 use Rattle.rules.specs.Job.{Bytes}
 use Rattle.graph.specs.Below.{sum}
-use Rattle.alignment.specs.Lines.{lineStart}
+use Rattle.fasta_lines.specs.Lines.{lineStart, AtByte}
+use Rattle.made.specs.Answers.{refuses}
+use Rattle.made.proofs.Answers.{refuses-told, passes-told}
 use Rattle.alignment.specs.Sequences.{opened}
-use Rattle.alignment.specs.Answers.{refuses}
-use Rattle.alignment.specs.Read.{AtByte, lengthsTo, CountedTo}
+use Rattle.alignment.specs.Read.{lengthsTo, CountedTo}
 use Rattle.alignment.proofs.Faults.{Clear, few-opened}
 use Rattle.alignment.proofs.Counted.{lengths-none, lengths-length, fault-left, passed-left}
-use Rattle.alignment.proofs.Answered.{refuses-told, passes-told, read-fault, read-whole}
+use Rattle.alignment.proofs.Answered.{read-fault, read-whole}
 use Rattle.alignment.proofs.read.Statement.{statement}
 use Rattle.alignment.proofs.read.Tie as tie
 

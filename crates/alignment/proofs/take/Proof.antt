@@ -4,7 +4,7 @@ use mathlib.Core.Bool.{true, false}
 use native.Mathlib.Omega.{arith}
 use borrow.Author.Tests.{not-true, not-false}
 use borrow.Author.Needs.{needs}
-use Rattle.alignment.specs.Lines.{opens, isState}
+use Rattle.fasta_lines.specs.Lines.{opens, isState}
 use Rattle.alignment.proofs.Faults.{skipped-passes, many-is, opener-passes}
 use Rattle.alignment.proofs.Counted.{lengths-same, taken-fault, taken-passed}
 use Rattle.alignment.proofs.take.Statement.{statement}

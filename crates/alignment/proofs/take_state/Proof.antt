@@ -8,7 +8,7 @@ use mir.Facts.{fits-8-64}
 use borrow.Author.Tests.{leb-true, leb-false}
 use borrow.Author.Needs.{needs}
 use Rattle.rules.specs.Job.{outside}
-use Rattle.alignment.specs.Lines.{byteAt}
+use Rattle.fasta_lines.specs.Lines.{byteAt}
 use Rattle.alignment.specs.Sequences.{opened}
 use Rattle.alignment.specs.Refusals.{held}
 use Rattle.alignment.proofs.Faults.{before-is, byte-is, wide-is, state-passes}

@@ -4,8 +4,8 @@ use mathlib.Core.Bool.{true}
 use native.Mathlib.Omega.{arith}
 use borrow.Author.Needs.{needs}
 use borrow.Author.Tests.{not-true, not-false}
-use Rattle.alignment.specs.Lines.{isState}
 use Rattle.memory.proofs.Follows.{follows-none}
+use Rattle.fasta_lines.specs.Lines.{isState}
 use Rattle.fasta.proofs.Written.{stored}
 use Rattle.fasta.proofs.put_state.Statement.{statement}
 use Rattle.fasta.proofs.put_state.Tie as tie

@@ -3,8 +3,8 @@ use mathlib.Core.Path.{sym, ap, _∙_}
 use native.Mathlib.Omega.{arith}
 use lib.Seq.{length-take-le}
 use borrow.Author.Needs.{needs}
-use Rattle.alignment.specs.Answers.{madeNumber, madePlace}
 use Rattle.fasta.proofs.Ready.{Ready, ready, not-ready}
+use Rattle.made.specs.Answers.{madeNumber, madePlace}
 use Rattle.fasta_service.proofs.Left.{job-left, refusal-left}
 use Rattle.fasta_service.proofs.answer_fasta.Statement.{statement}
 use Rattle.fasta_service.proofs.answer_fasta.Tie as tie

@@ -1,9 +1,9 @@
--- `alignment::opens` meets its contract.
+-- `fasta_lines::opens` meets its contract.
 use mathlib.Core.Path.{_∙_}
 use borrow.Author.Tests.{eq-eqb, ne-eqb}
 use borrow.Author.Needs.{needs}
-use Rattle.alignment.proofs.opens.Statement.{statement}
-use Rattle.alignment.proofs.opens.Tie as tie
+use Rattle.fasta_lines.proofs.opens.Statement.{statement}
+use Rattle.fasta_lines.proofs.opens.Tie as tie
 
 returns : tie.Need-returns
 returns c = rw (ne-eqb _ _ (λ e. c .if1 .taken (c .before .pre .starts ∙ e)))

@@ -1,8 +1,9 @@
 -- A FASTA text by its lines: which bytes open a sequence, and which are states.
+use mathlib.Core.Path.{_≡_}
 use mathlib.Core.Bool.{Bool, cond, not, _&&_, _||_}
-use Prim.Native.Nat.{ℕ, zero, suc, _+_}
+use Prim.Native.Nat.{ℕ, zero, suc, _+_, _<_}
 use lib.Dec.{eqb}
-use lib.ListN.{getD}
+use lib.ListN.{length, getD}
 use Rattle.rules.specs.Job.{Bytes}
 
 -- LF, CR and `>`.
@@ -40,3 +41,8 @@ opens text i = eqb (lineStart text i) i && inHeader text i
 -- empty lines are skipped.
 abbrev pub isState : Bytes → ℕ → Bool
 isState text i = not (inHeader text i) && not (endsLine text i)
+
+-- Byte i is one of the text, and its line starts at `line`.
+pub record AtByte (text : Bytes) (line i : ℕ) : Type 0 where
+  pub starts : line ≡ lineStart text i
+  pub within : i < length text

@@ -6,7 +6,7 @@ use native.Mathlib.Omega.{arith}
 use lib.Dec.{eqb}
 use borrow.Author.Tests.{not-true}
 use Rattle.rules.specs.Job.{Bytes}
-use Rattle.alignment.specs.Lines.{lf, byteAt, lineStart, inHeader, endsLine, opens, isState}
+use Rattle.fasta_lines.specs.Lines.{lf, byteAt, lineStart, inHeader, endsLine, opens, isState}
 
 -- A line starts no later than its bytes.
 pub start-within : (text : Bytes) (i : ℕ) → lineStart text i ≤ i

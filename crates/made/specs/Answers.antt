@@ -5,8 +5,8 @@ use Prim.Native.Nat.{ℕ}
 use lib.Dec.{eqb}
 use Rattle.answers.specs.Told.{Tells}
 use Rattle.answers.specs.declared.Told.{Told}
-use Rattle.alignment.specs.declared.Made.{Made}
-use Rattle.alignment.specs.declared.Made.the-variants.{Done, Short, Before, Byte, Wide, Many, Empty, Uneven}
+use Rattle.made.specs.declared.Made.{Made}
+use Rattle.made.specs.declared.Made.the-variants.{Done, Short, Before, Byte, Wide, Many, Empty, Uneven}
 
 abbrev pub madeNumber : Made → ℕ
 madeNumber (Done used) = 0

@@ -1,11 +1,11 @@
--- `alignment::ends_line` meets its contract: past the end there is no LF.
+-- `fasta_lines::ends_line` meets its contract: past the end there is no LF.
 use Prim.Native.Nat.{_+_}
 use native.Mathlib.Omega.{arith}
 use lib.ListN.{List·getD-eq-default}
 use borrow.Author.Tests.{eq-eqb, ne-eqb}
 use borrow.Author.Needs.{needs}
-use Rattle.alignment.proofs.ends_line.Statement.{statement}
-use Rattle.alignment.proofs.ends_line.Tie as tie
+use Rattle.fasta_lines.proofs.ends_line.Statement.{statement}
+use Rattle.fasta_lines.proofs.ends_line.Tie as tie
 
 shared-slice-read-if1 : tie.Need-shared-slice-read-if1
 shared-slice-read-if1 c = search needs

@@ -1,10 +1,10 @@
--- `alignment::next_line` meets its contract.
+-- `fasta_lines::next_line` meets its contract.
 use native.Mathlib.Numerals.{add-one}
 use borrow.Author.Tests.{eq-eqb, ne-eqb}
 use borrow.Author.Needs.{needs}
-use Rattle.alignment.specs.Lines.{lineStart}
-use Rattle.alignment.proofs.next_line.Statement.{statement}
-use Rattle.alignment.proofs.next_line.Tie as tie
+use Rattle.fasta_lines.specs.Lines.{lineStart}
+use Rattle.fasta_lines.proofs.next_line.Statement.{statement}
+use Rattle.fasta_lines.proofs.next_line.Tie as tie
 
 shared-slice-read-if1 : tie.Need-shared-slice-read-if1
 shared-slice-read-if1 c = search needs

@@ -1,10 +1,10 @@
--- `alignment::is_state` meets its contract: a line starts no later than its bytes.
+-- `fasta_lines::is_state` meets its contract: a line starts no later than its bytes.
 use native.Mathlib.Omega.{arith}
 use borrow.Author.Tests.{eq-eqb, ne-eqb}
 use borrow.Author.Needs.{needs}
-use Rattle.alignment.proofs.Lines.{start-within}
-use Rattle.alignment.proofs.is_state.Statement.{statement}
-use Rattle.alignment.proofs.is_state.Tie as tie
+use Rattle.fasta_lines.proofs.Lines.{start-within}
+use Rattle.fasta_lines.proofs.is_state.Statement.{statement}
+use Rattle.fasta_lines.proofs.is_state.Tie as tie
 
 shared-slice-read-if1 : tie.Need-shared-slice-read-if1
 shared-slice-read-if1 c = let s = c .before .before in omega (arith, s .pre .starts, s .pre .within, start-within (s .args .text .now) (s .args .i))
