@@ -1,10 +1,12 @@
 -- The distance of two stored rows, summed over the first c of their 64 characters.
-use mathlib.Core.Path.{_≡_, refl, sym, ap, _∙_}
+use mathlib.Core.Path.{_≡_, refl, ap}
+use mathlib.Core.Bool.{Bool, true, false, cond}
 use mathlib.Core.List.{List}
 use Prim.Native.Nat.{ℕ, _+_, _*_, _≤_, _<_}
+use native.Mathlib.Nat.{le-trans}
 use native.Mathlib.Omega.{arith}
+use lib.Dec.{eqb}
 use lib.ListN.{length, getD}
-use borrow.Author.Tests.{eq-eqb, ne-eqb}
 use Rattle.graph.specs.Below.{sum}
 use Rattle.graph.proofs.Below.{sum-more}
 use Rattle.rules.specs.Job.{Bytes}
@@ -29,18 +31,23 @@ module _ (ws : List ℕ) (states : Bytes) (i j : ℕ) where
       let all : c ≡ length ws = omega (arith, t .passed, w .size) in
       rw all at (t .so-far)
 
-  -- One character more: in which the rows agree, and in which they differ.
-  module _ {c s : ℕ} (h : c < 64) (t : Summed c s) where
-    pub agree : getD states (64 * i + c) 0 ≡ getD states (64 * j + c) 0 → Summed (c + 1) s
-    agree e =
-        let same = eq-eqb _ _ (storedAt-state states i c h ∙ e ∙ sym (storedAt-state states j c h)) in
-        record { passed = omega arith; so-far = rw (sum-more, same) (omega (arith, t .so-far)); small = omega (arith, t .small) }
+  -- What character c counts is at most its weight.
+  abbrev pub counts : ℕ → ℕ
+  counts c = cond (eqb (getD states (64 * i + c) 0) (getD states (64 * j + c) 0)) 0 (getD ws c 0)
 
-    pub differ : Weighed ws → ¬ (getD states (64 * i + c) 0 ≡ getD states (64 * j + c) 0) → Summed (c + 1) (s + getD ws c 0)
-    differ w n =
-        let other = ne-eqb _ _ (λ e. n (sym (storedAt-state states i c h) ∙ e ∙ storedAt-state states j c h)) in
+  cond-at-most : (b : Bool) (x : ℕ) → cond b 0 x ≤ x
+  cond-at-most true x = omega arith
+  cond-at-most false x = omega arith
+
+  module _ {c s : ℕ} (h : c < 64) (t : Summed c s) (w : Weighed ws) where
+    pub counts-little : counts c ≤ 1000
+    counts-little = le-trans (cond-at-most (eqb (getD states (64 * i + c) 0) (getD states (64 * j + c) 0)) (getD ws c 0)) (w .at-most c h)
+
+    -- One character more.
+    pub one-more : Summed (c + 1) (s + counts c)
+    one-more =
         record {
           passed = omega arith;
-          so-far = rw (sum-more, other) (ap (λ (k : ℕ). k + getD ws c 0) (t .so-far));
-          small = omega (arith, t .small, w .at-most c h);
+          so-far = rw (sum-more, storedAt-state states i c h, storedAt-state states j c h) (ap (λ (k : ℕ). k + counts c) (t .so-far));
+          small = omega (arith, t .small, counts-little);
         }

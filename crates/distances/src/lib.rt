@@ -3,9 +3,18 @@
 // area and writes the distance area.
 
 ghost use mathlib.Core.Path.{_≡_};
+ghost use mathlib.Core.Bool.{cond};
 ghost use Prim.Native.Nat.{_+_, _*_, _≤_, _<_};
+ghost use lib.Dec.{eqb};
 ghost use lib.ListN.{length};
 ghost use Rattle.distances.specs.Area.{Weighed, Written, New, storedApart};
+
+// What a character counts: its weight where two states differ, and else 0. By value, so that no branch stands in the sum's way.
+fn counted(x: u8, y: u8, weight: u16) -> u16
+    ensures { λ r. ⌜ r ≡ cond (eqb x y) 0 weight ⌝ }
+{
+    if x == y { 0 } else { weight }
+}
 
 // The distance of two types: the sum of the weights of the characters in which their rows differ. All 64 characters are
 // compared; those past the width weigh nothing.
@@ -18,9 +27,7 @@ pub fn distance(states: &[u8], weights: &[u16], i: usize, j: usize) -> u16
     let mut sum = 0u16;
     let mut c = 0;
     while c < 64 {
-        if states[a + c] != states[b + c] {
-            sum += weights[c];
-        }
+        sum += counted(states[a + c], states[b + c], weights[c]);
         c += 1;
     }
     sum

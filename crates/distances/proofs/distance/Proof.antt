@@ -1,8 +1,7 @@
 -- `distances::distance` meets its contract: after c characters the sum is that of the first c.
-use mathlib.Core.Logic.{⊎-elim}
 use Prim.Native.Nat.{_-_, _<_}
 use native.Mathlib.Omega.{arith}
-use Rattle.distances.proofs.Summed.{Summed, none-summed, all-summed, agree, differ}
+use Rattle.distances.proofs.Summed.{Summed, none-summed, all-summed, counts-little, one-more}
 use Rattle.distances.proofs.distance.Statement.{statement}
 use Rattle.distances.proofs.distance.Tie as tie
 
@@ -21,28 +20,31 @@ mul-b c = omega arith
 loop-holds : tie.Need-loop-holds Inv-loop μ-loop
 loop-holds c = none-summed _ _ _ _
 
-add-if1 : tie.Need-add-if1 Inv-loop μ-loop
-add-if1 c = omega arith
+add-counted : tie.Need-add-counted Inv-loop μ-loop
+add-counted c = omega arith
 
-shared-slice-read-if1 : tie.Need-shared-slice-read-if1 Inv-loop μ-loop
-shared-slice-read-if1 c = omega arith
+shared-slice-read-counted : tie.Need-shared-slice-read-counted Inv-loop μ-loop
+shared-slice-read-counted c = omega arith
 
-add-if1-2 : tie.Need-add-if1-2 Inv-loop μ-loop
-add-if1-2 c = omega arith
+add-counted-2 : tie.Need-add-counted-2 Inv-loop μ-loop
+add-counted-2 c = omega arith
 
-shared-slice-read-if1-2 : tie.Need-shared-slice-read-if1-2 Inv-loop μ-loop
-shared-slice-read-if1-2 c = omega arith
+shared-slice-read-counted-2 : tie.Need-shared-slice-read-counted-2 Inv-loop μ-loop
+shared-slice-read-counted-2 c = omega arith
 
-mul-sum : tie.Need-mul-sum Inv-loop μ-loop
-mul-sum c = omega arith
+mul-counted : tie.Need-mul-counted Inv-loop μ-loop
+mul-counted c = omega arith
 
-shared-slice-read-sum : tie.Need-shared-slice-read-sum Inv-loop μ-loop
-shared-slice-read-sum c = omega arith
+shared-slice-read-counted-3 : tie.Need-shared-slice-read-counted-3 Inv-loop μ-loop
+shared-slice-read-counted-3 c = omega arith
+
+counted-requires : tie.Need-counted-requires Inv-loop μ-loop
+counted-requires c κs = tt
 
 add-sum : tie.Need-add-sum Inv-loop μ-loop
 add-sum c =
     let l = c .before .before .before .before .before in
-    omega (arith, l .loop .inv .small, l .before .pre .0 .at-most (l .loop .c) (omega arith))
+    omega (arith, c .counted .ensures, l .loop .inv .small, counts-little _ _ _ _ (c .before .before .before .before .loop-test .taken) (l .loop .inv) (l .before .before .before .pre .0))
 
 add-c : tie.Need-add-c Inv-loop μ-loop
 add-c c = omega arith
@@ -52,17 +54,13 @@ loop-less c = omega arith
 
 loop-again : tie.Need-loop-again Inv-loop μ-loop
 loop-again c =
-    let l = c .before .before .before .before in
-    let h : l .loop .c < 64 = omega arith in
-    ⊎-elim
-    (λ w. rw (w .2) (differ _ _ _ _ h (l .loop .inv) (l .before .pre .0) (w .0 .taken)))
-    (λ w. rw (w .1) (agree _ _ _ _ h (l .loop .inv) (w .0 .left)))
-    (c .if1 .came)
+    let l = c .before .before .before .before .before in
+    rw (c .counted .ensures) (one-more _ _ _ _ (c .before .before .before .before .loop-test .taken) (l .loop .inv) (l .before .before .before .pre .0))
 
 returns : tie.Need-returns Inv-loop μ-loop
 returns c =
     let l = c .before in
-    all-summed _ _ _ _ (l .before .pre .0) (l .loop .c) _ (omega arith) (l .loop .inv)
+    all-summed _ _ _ _ (l .before .before .before .pre .0) (l .loop .c) _ (omega arith) (l .loop .inv)
 
 pub distance-spec : {M : Type 1} → statement M
 distance-spec =
@@ -73,12 +71,13 @@ distance-spec =
     mul-a
     mul-b
     loop-holds
-    add-if1
-    shared-slice-read-if1
-    add-if1-2
-    shared-slice-read-if1-2
-    mul-sum
-    shared-slice-read-sum
+    add-counted
+    shared-slice-read-counted
+    add-counted-2
+    shared-slice-read-counted-2
+    mul-counted
+    shared-slice-read-counted-3
+    counted-requires
     add-sum
     add-c
     loop-less
