@@ -1,3 +1,4 @@
+pub mod Own
 pub mod Taken
 pub mod Costed
 pub mod Stored

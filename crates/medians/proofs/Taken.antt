@@ -12,10 +12,10 @@ use Rattle.rules.proofs.Between.{median-is}
 use Rattle.types.specs.State.{storedAt}
 use Rattle.types.proofs.State.{length-storedAt, storedAt-state}
 
-module _ (states : Bytes) (x u v w : ℕ) where
+module _ (states : Bytes) (x y z : ℕ) where
   -- Its state in character c.
   abbrev pub stateOf : ℕ → ℕ
-  stateOf c = common (getD states (64 * x + c) 0) (getD states (64 * u + c) 0) (getD states (64 * v + c) 0) (getD states (64 * w + c) 0)
+  stateOf c = common (getD states (64 * x + c) 0) (getD states (64 * x + c) 0) (getD states (64 * y + c) 0) (getD states (64 * z + c) 0)
 
   pub record Taken (c : ℕ) (row : Bytes) : Type 0 where
     pub passed : c ≤ 64
@@ -36,9 +36,9 @@ module _ (states : Bytes) (x u v w : ℕ) where
   }
 
   pub all-taken : (c : ℕ) (row : Bytes) → 64 * x + 64 ≤ length states → 64 ≤ c → Taken c row →
-      row ≡ median (storedAt states x) (storedAt states u) (storedAt states v) (storedAt states w)
+      row ≡ median (storedAt states x) (storedAt states x) (storedAt states y) (storedAt states z)
   all-taken c row inside h t =
       sym (median-is _ _ _ _ row (length-storedAt states x inside ∙ sym (t .size)) (λ k l.
       let n : k < 64 = omega (arith, t .size) in
-      rw (storedAt-state states x k n, storedAt-state states u k n, storedAt-state states v k n, storedAt-state states w k n)
+      rw (storedAt-state states x k n, storedAt-state states y k n, storedAt-state states z k n)
       (sym (t .so-far k (omega arith)))))

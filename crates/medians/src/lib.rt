@@ -8,41 +8,27 @@ ghost use Rattle.types.specs.State.{storedAt};
 ghost use Rattle.distances.specs.Area.{Weighed};
 ghost use Rattle.medians.specs.Cost.{costAt};
 
-// The state held by two or more, and x where all three differ.
-fn common(x: u8, u: u8, v: u8, w: u8) -> u8
-    ensures { λ r. ⌜ r ≡ common x u v w ⌝ }
+// The state that two or more of own, second and third hold, and own where all three differ: if second and third differ, it is own
+// either way.
+fn pick(own: u8, second: u8, third: u8) -> u8
+    ensures { λ r. ⌜ r ≡ common own own second third ⌝ }
 {
-    if u == v {
-        u
-    } else if u == w {
-        u
-    } else if v == w {
-        v
-    } else {
-        x
-    }
+    if second == third { second } else { own }
 }
 
-// The median vector of types u, v and w that takes the state of type x where all three differ.
-fn median(states: &[u8], x: usize, u: usize, v: usize, w: usize) -> [u8; 64]
-    requires { ⌜ (64 * x + 64 ≤ length (now states)) × (64 * u + 64 ≤ length (now states)) × (64 * v + 64 ≤ length (now states))
-        × (64 * w + 64 ≤ length (now states)) ⌝ }
-    ensures { λ r. ⌜ r ≡ median (storedAt (now (states .entry)) x) (storedAt (now (states .entry)) u) (storedAt (now (states .entry)) v)
-        (storedAt (now (states .entry)) w) ⌝ }
+// The median vector of types x, y and z that takes the state of type x where all three differ.
+fn median(states: &[u8], x: usize, y: usize, z: usize) -> [u8; 64]
+    requires { ⌜ (64 * x + 64 ≤ length (now states)) × (64 * y + 64 ≤ length (now states)) × (64 * z + 64 ≤ length (now states)) ⌝ }
+    ensures { λ r. ⌜ r ≡ median (storedAt (now (states .entry)) x) (storedAt (now (states .entry)) x) (storedAt (now (states .entry)) y)
+        (storedAt (now (states .entry)) z) ⌝ }
 {
     let own = 64 * x;
-    let first = 64 * u;
-    let second = 64 * v;
-    let third = 64 * w;
+    let second = 64 * y;
+    let third = 64 * z;
     let mut row = [0u8; 64];
     let mut c = 0;
     while c < 64 {
-        row[c] = common(
-            states[own + c],
-            states[first + c],
-            states[second + c],
-            states[third + c],
-        );
+        row[c] = pick(states[own + c], states[second + c], states[third + c]);
         c += 1;
     }
     row
@@ -53,9 +39,9 @@ pub fn medians(states: &[u8], u: usize, v: usize, w: usize) -> [[u8; 64]; 3]
     requires { ⌜ (64 * u + 64 ≤ length (now states)) × (64 * v + 64 ≤ length (now states)) × (64 * w + 64 ≤ length (now states)) ⌝ }
     ensures { λ r. ⌜ r ≡ medians (storedAt (now (states .entry)) u) (storedAt (now (states .entry)) v) (storedAt (now (states .entry)) w) ⌝ }
 {
-    let first = median(states, u, u, v, w);
-    let second = median(states, v, u, v, w);
-    let third = median(states, w, u, v, w);
+    let first = median(states, u, v, w);
+    let second = median(states, v, u, w);
+    let third = median(states, w, u, v);
     [first, second, third]
 }
 
