@@ -5,6 +5,7 @@ ghost use mathlib.Core.Path.{_≡_};
 ghost use Prim.Native.Nat.{_*_, _≤_};
 ghost use lib.ListN.{length};
 ghost use Rattle.distances.specs.Area.{Weighed};
+ghost use Rattle.triplets.specs.Followers.{Followers};
 ghost use Rattle.candidates.specs.Fresh.{IsNone, IsSorted, Fresh};
 use ascending::ascending;
 use known::guess_all;
@@ -44,19 +45,21 @@ fn added_rows(found: &[u8], count: usize) -> Added
     }
 }
 
-// All candidates of a cost of at most lambda and epsilon, each once, ascending by their bytes; n types are current.
-pub fn fresh(
+// All candidates of a cost of at most lambda and epsilon, each once, ascending by their bytes; n types are current, and who is linked
+// with them is known.
+fn choose(
     states: &[u8],
     area: &[u16],
     weights: &[u16],
+    next: &[u16],
     n: usize,
     made: usize,
     epsilon: usize,
 ) -> Added
-    requires { ⌜ Weighed (now weights) × (n ≤ made) × (made ≤ 128) × (epsilon ≤ 65535) × (64 * made ≤ length (now states)) × (16384 ≤ length (now area)) ⌝ }
+    requires { ⌜ Weighed (now weights) × (n ≤ made) × (made ≤ 128) × (epsilon ≤ 65535) × (64 * made ≤ length (now states)) × (16384 ≤ length (now area))
+        × Followers (now area) n (now next) ⌝ }
     ensures { λ r. ⌜ Fresh (now (weights .entry)) (now (states .entry)) (now (area .entry)) n made epsilon r ⌝ }
 {
-    let next = followers(area, n);
     let mut guesses = guess_all(states, made);
     let mut found = [0u8; 8192];
     let any = Search::for_lambda(made);
@@ -64,7 +67,7 @@ pub fn fresh(
         states,
         area,
         weights,
-        &next,
+        next,
         &mut found,
         &mut guesses,
         n,
@@ -78,7 +81,7 @@ pub fn fresh(
         states,
         area,
         weights,
-        &next,
+        next,
         &mut found,
         &mut guesses,
         n,
@@ -88,4 +91,21 @@ pub fn fresh(
         return none(true);
     }
     added_rows(&found, all.count)
+}
+
+// The rows that a round adds, where n types are current.
+pub fn fresh(
+    states: &[u8],
+    area: &[u16],
+    weights: &[u16],
+    n: usize,
+    made: usize,
+    epsilon: usize,
+) -> Added
+    requires { ⌜ Weighed (now weights) × (n ≤ made) × (made ≤ 128) × (epsilon ≤ 65535) × (64 * made ≤ length (now states)) × (16384 ≤ length (now area)) ⌝ }
+    ensures { λ r. ⌜ Fresh (now (weights .entry)) (now (states .entry)) (now (area .entry)) n made epsilon r ⌝ }
+{
+    let mut next = [256u16; 16512];
+    followers(area, &mut next, n);
+    choose(states, area, weights, &next, n, made, epsilon)
 }

@@ -4,12 +4,10 @@ use mathlib.Core.Path.{_≡_, sym, _∙_}
 use mathlib.Core.Logic.{_⊎_, inl, inr, ⊎-elim}
 use mathlib.Core.Bool.{true, false, false≢true}
 use mathlib.Core.List.{List}
-use Prim.Native.Nat.{ℕ, _+_, _*_, _≤_, _<_, min, max}
+use Prim.Native.Nat.{ℕ, _+_, _*_, _≤_, _<_}
 use native.Mathlib.Decide.{decLt}
 use native.Mathlib.Omega.{arith}
-use lib.Dec.{eqb}
 use lib.ListN.{length, getD}
-use borrow.Author.Tests.{ne-eqb}
 use Rattle.rules.specs.Job.{Bytes}
 use Rattle.links.specs.Marks.{marked}
 use Rattle.triplets.specs.Followers.{Follower, Followers}
@@ -86,12 +84,6 @@ module _ {ws : List ℕ} {states : Bytes} {area : List ℕ} {n made c : ℕ} {x 
         let e : k .b ≡ b = omega (arith, not-passed f (k .b) (k .linked) (k .within)) in
         inr (k .faithful, rw e at (k .met-here), rw e at (k .gives))
   ]
-
--- The code reads the mark of two types in the line of the higher one.
-pub mark-read : (area : List ℕ) (a b : ℕ) → a < b → marked area a b ≡ eqb (getD area (128 * b + a) 0) 1
-mark-read area a b h =
-    let e : 128 * max a b + min a b ≡ 128 * b + a = omega arith in
-    rw (ne-eqb a b (omega arith), e)
 
 module _ {states : Bytes} {area ws next : List ℕ} {found₀ guesses₀ : Bytes} {n : ℕ} {s₀ : Search}
     (ready : Ready states area ws next found₀ guesses₀ n s₀) where

@@ -1,13 +1,15 @@
 -- The table of followers is filled: a line from its end to its start, and line after line.
 use mathlib.Core.Path.{_≡_, refl, sym, _∙_}
-use mathlib.Core.Logic.{_≢_}
+use mathlib.Core.Logic.{_⊎_, inl, inr, _≢_}
 use mathlib.Core.Bool.{true, false}
 use mathlib.Core.List.{List}
 use Prim.Native.Nat.{ℕ, _+_, _*_, _≤_, _<_}
 use native.Mathlib.Decide.{ℕ-discrete}
 use native.Mathlib.Omega.{arith}
+use lib.Dec.{eqb}
 use lib.ListN.{length, set, length-set}
 use lib.Seq.{getD-set-same, getD-set-other}
+use borrow.Author.Tests.{eq-eqb, ne-eqb}
 use Rattle.links.specs.Marks.{marked}
 use Rattle.triplets.specs.Followers.{Follower, followerAt, Followers, FollowLine}
 
@@ -21,7 +23,7 @@ module _ {area : List ℕ} {n c : ℕ} where
     linked = λ h. absurd (omega arith);
   }
 
-  pub follower-here : {i : ℕ} → i < n → marked area c i ≡ true → Follower area n c i i
+  follower-here : {i : ℕ} → i < n → marked area c i ≡ true → Follower area n c i i
   follower-here h t = record {
     from = omega arith;
     within = omega arith;
@@ -29,7 +31,7 @@ module _ {area : List ℕ} {n c : ℕ} where
     linked = λ l. t;
   }
 
-  pub follower-later : {i j r : ℕ} → i ≡ j + 1 → marked area c j ≡ false → Follower area n c i r → Follower area n c j r
+  follower-later : {i j r : ℕ} → i ≡ j + 1 → marked area c j ≡ false → Follower area n c i r → Follower area n c j r
   follower-later {j = j} e t f = record {
     from = omega (arith, f .from);
     within = f .within;
@@ -37,17 +39,21 @@ module _ {area : List ℕ} {n c : ℕ} where
     linked = f .linked;
   }
 
--- Line c is filled from place i on.
-pub record Filled (area : List ℕ) (n c : ℕ) (before : List ℕ) (i : ℕ) (next : List ℕ) : Type 0 where
-  pub size : length next ≡ 16512
-  pub line : (k : ℕ) → i ≤ k → k ≤ n → Follower area n c k (followerAt next c k)
-  pub kept : (d k : ℕ) → d ≢ c → k < 129 → followerAt next d k ≡ followerAt before d k
+  -- No type is linked with itself.
+  pub follower-self : {r : ℕ} → Follower area n c (c + 1) r → Follower area n c c r
+  follower-self f = follower-later refl (rw (eq-eqb c c refl)) f
+
+  -- A turn of the code: the mark of type j is read, and the follower is j or as it was.
+  pub follower-turn : {i j r r′ cell : ℕ} → i ≡ j + 1 → j < n → marked area c j ≡ eqb cell 1 → Follower area n c i r →
+      ((cell ≡ 1) × (r′ ≡ j)) ⊎ ((cell ≢ 1) × (r′ ≡ r)) → Follower area n c j r′
+  follower-turn e h m f (inl (t, is)) = rw is (follower-here h (m ∙ eq-eqb _ _ t))
+  follower-turn e h m f (inr (t, is)) = rw is (follower-later e (m ∙ ne-eqb _ _ t) f)
 
 module _ {area : List ℕ} {n c : ℕ} where
   -- One place more, the one before those filled.
-  pub one-filled : {before next : List ℕ} {i r : ℕ} (j : ℕ) → i ≡ j + 1 → j ≤ n → n ≤ 128 → c < 128 → Filled area n c before i next →
-      Follower area n c j r → Filled area n c before j (set next (129 * c + j) r)
-  one-filled {next = next} {r = r} j e h small l t f = record {
+  pub one-filled : {before next : List ℕ} {i r : ℕ} (j : ℕ) → i ≡ j + 1 → j ≤ n → n ≤ 128 → c < n → length before ≡ 16512 →
+      FollowLine area n c i before next → Follower area n c j r → FollowLine area n c j before (set next (129 * c + j) r)
+  one-filled {next = next} {r = r} j e h small l room t f = record {
     size = length-set next (129 * c + j) r ∙ t .size;
     line = λ k g m. elim (ℕ-discrete k j) [
       | yes s ↦ rw (s, getD-set-same next (129 * c + j) r 0 (omega (arith, t .size))) f
@@ -57,21 +63,20 @@ module _ {area : List ℕ} {n c : ℕ} where
         getD-set-other next (129 * c + j) (129 * d + k) r 0 (λ s. other (omega arith)) ∙ t .kept d k other g;
   }
 
-  -- The place behind the last type is filled first.
-  pub first-filled : {before : List ℕ} → n ≤ 128 → c < 128 → length before ≡ 16512 → Filled area n c before n (set before (129 * c + n) n)
-  first-filled {before} small l room =
-      let none : Filled area n c before (n + 1) before = record { size = room; line = λ k h l. absurd (omega arith); kept = λ d k other h. refl } in
-      one-filled n refl (omega arith) small l none follower-none
+  -- No place is filled yet, and the place behind the last type is filled first.
+  none-filled : (before : List ℕ) → FollowLine area n c (n + 1) before before
+  none-filled before = record { size = refl; line = λ k h l. absurd (omega arith); kept = λ d k other h. refl }
+
+  pub first-filled : {before : List ℕ} → n ≤ 128 → c < n → length before ≡ 16512 → FollowLine area n c n before (set before (129 * c + n) n)
+  first-filled {before} small l room = one-filled n refl (omega arith) small l room (none-filled before) follower-none
 
   -- What is filled since then, and what was filled before.
-  pub filled-since : {before next : List ℕ} {i : ℕ} → Filled area n c before i next → Filled area n c next i next
-  filled-since t = record { size = t .size; line = t .line; kept = λ d k other h. refl }
+  pub filled-since : {before next : List ℕ} {i : ℕ} → FollowLine area n c i before next → FollowLine area n c i next next
+  filled-since t = record { size = refl; line = t .line; kept = λ d k other h. refl }
 
-  pub filled-then : {before mid next : List ℕ} {i j : ℕ} → Filled area n c before i mid → Filled area n c mid j next → Filled area n c before j next
-  filled-then t s = record { size = s .size; line = s .line; kept = λ d k other h. s .kept d k other h ∙ t .kept d k other h }
-
-  pub all-filled : {before next : List ℕ} {i : ℕ} → i ≤ 0 → length before ≡ 16512 → Filled area n c before i next → FollowLine area n c before next
-  all-filled z room t = record { size = t .size ∙ sym room; line = λ k h. t .line k (omega arith) h; kept = t .kept }
+  pub filled-then : {before mid next : List ℕ} {i j : ℕ} → FollowLine area n c i before mid → FollowLine area n c j mid next →
+      FollowLine area n c j before next
+  filled-then t s = record { size = s .size ∙ t .size; line = s .line; kept = λ d k other h. s .kept d k other h ∙ t .kept d k other h }
 
 -- The lines before c are filled.
 pub record Lines (area : List ℕ) (n c : ℕ) (next : List ℕ) : Type 0 where
@@ -82,13 +87,13 @@ pub record Lines (area : List ℕ) (n c : ℕ) (next : List ℕ) : Type 0 where
 pub no-line : (area : List ℕ) (n : ℕ) (next : List ℕ) → length next ≡ 16512 → Lines area n 0 next
 no-line area n next room = record { passed = omega arith; size = room; each = λ d i h l. absurd (omega arith) }
 
-pub one-line : {area : List ℕ} {n c : ℕ} {before after : List ℕ} → c < n → n ≤ 128 → Lines area n c before → FollowLine area n c before after →
+pub one-line : {area : List ℕ} {n c : ℕ} {before after : List ℕ} → c < n → n ≤ 128 → Lines area n c before → FollowLine area n c 0 before after →
     Lines area n (c + 1) after
 one-line {c = c} h small t f = record {
   passed = omega arith;
   size = f .size ∙ t .size;
   each = λ d i g l. elim (ℕ-discrete d c) [
-    | yes e ↦ rw e (f .line i l)
+    | yes e ↦ rw e (f .line i (omega arith) l)
     | no other ↦ rw (f .kept d i other (omega arith)) (t .each d i (omega arith) l)
   ];
 }

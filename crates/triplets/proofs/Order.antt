@@ -26,6 +26,10 @@ module _ (area : List ℕ) (i j : ℕ) where
     | no other ↦ let e : 128 * max i j + min i j ≡ 128 * max j i + min j i = omega arith in rw (ne-eqb i j other, ne-eqb j i (λ e. other (sym e)), e)
   ]
 
+  -- It stands in the line of the higher one.
+  pub mark-read : i < j → marked area i j ≡ eqb (getD area (128 * j + i) 0) 1
+  mark-read h = let e : 128 * max i j + min i j ≡ 128 * j + i = omega arith in rw (ne-eqb i j (omega arith), e)
+
   pub marked-other : marked area i j ≡ true → i ≢ j
   marked-other t e = false≢true (rw (eq-eqb i j e) at t)
 

@@ -21,8 +21,8 @@ pub record Followers (area : List ℕ) (n : ℕ) (next : List ℕ) : Type 0 wher
   pub size : length next ≡ 16512
   pub each : (c i : ℕ) → c < n → i ≤ n → Follower area n c i (followerAt next c i)
 
--- One line is filled; the others are as they were.
-pub record FollowLine (area : List ℕ) (n c : ℕ) (before after : List ℕ) : Type 0 where
+-- Line c is filled from place i on; the other lines are as they were.
+pub record FollowLine (area : List ℕ) (n c i : ℕ) (before after : List ℕ) : Type 0 where
   pub size : length after ≡ length before
-  pub line : (i : ℕ) → i ≤ n → Follower area n c i (followerAt after c i)
-  pub kept : (d i : ℕ) → d ≢ c → i < 129 → followerAt after d i ≡ followerAt before d i
+  pub line : (k : ℕ) → i ≤ k → k ≤ n → Follower area n c k (followerAt after c k)
+  pub kept : (d k : ℕ) → d ≢ c → k < 129 → followerAt after d k ≡ followerAt before d k

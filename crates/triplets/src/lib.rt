@@ -2,11 +2,10 @@
 // distance area.
 
 ghost use mathlib.Core.Path.{_≡_};
-ghost use Prim.Native.Nat.{_≤_, _<_};
+ghost use Prim.Native.Nat.{_+_, _≤_, _<_};
 ghost use lib.ListN.{length};
-ghost use Rattle.triplets.specs.Followers.{FollowLine, Followers};
+ghost use Rattle.triplets.specs.Followers.{Follower, FollowLine, Followers};
 ghost use Rattle.triplets.specs.Triplet.{inOrder, canMatter};
-use links::linked;
 
 // Three types, ascending.
 pub struct Triplet {
@@ -15,18 +14,41 @@ pub struct Triplet {
     pub w: usize,
 }
 
-// Line c of the table: at place i the first type from i on that is linked with type c, or n where none is.
-fn follow(area: &[u16], next: &mut [u16], n: usize, c: usize)
-    requires { ⌜ (n ≤ 128) × (c < 128) × (16384 ≤ length (now area)) × (length (now next) ≡ 16512) ⌝ }
-    ensures { λ _. ⌜ FollowLine (now (area .entry)) n c (now (next .entry)) (now (next .exit)) ⌝ }
+// Line c of the table above place c: at place i the first type from i on that is linked with type c, or n where none is. Types above
+// c have their marks down column c. Hands back the first of them that is linked with c.
+fn follow_above(area: &[u16], next: &mut [u16], n: usize, c: usize) -> u16
+    requires { ⌜ (n ≤ 128) × (c < n) × (16384 ≤ length (now area)) × (length (now next) ≡ 16512) ⌝ }
+    ensures { λ r. ⌜ Follower (now (area .entry)) n c (c + 1) r
+        × FollowLine (now (area .entry)) n c (c + 1) (now (next .entry)) (now (next .exit)) ⌝ }
 {
     let line = 129 * c;
     let mut i = n;
     let mut follower = n as u16;
     next[line + i] = follower;
+    while c + 1 < i {
+        i -= 1;
+        if area[128 * i + c] == 1 {
+            follower = i as u16;
+        }
+        next[line + i] = follower;
+    }
+    follower
+}
+
+// The rest of line c, whose follower behind place c is known. Types below c have their marks along line c of the area.
+fn follow_below(area: &[u16], next: &mut [u16], n: usize, c: usize, above: u16)
+    requires { ⌜ (n ≤ 128) × (c < n) × (16384 ≤ length (now area)) × (length (now next) ≡ 16512)
+        × Follower (now area) n c (c + 1) above × FollowLine (now area) n c (c + 1) (now next) (now next) ⌝ }
+    ensures { λ _. ⌜ FollowLine (now (area .entry)) n c 0 (now (next .entry)) (now (next .exit)) ⌝ }
+{
+    let line = 129 * c;
+    let marks = 128 * c;
+    let mut i = c;
+    let mut follower = above;
+    next[line + i] = follower;
     while 0 < i {
         i -= 1;
-        if linked(area, c, i) {
+        if area[marks + i] == 1 {
             follower = i as u16;
         }
         next[line + i] = follower;
@@ -34,17 +56,16 @@ fn follow(area: &[u16], next: &mut [u16], n: usize, c: usize)
 }
 
 // For each of n types, and each place, the first type from there on that is linked with it; 129 places to a type.
-pub fn followers(area: &[u16], n: usize) -> [u16; 16512]
-    requires { ⌜ (n ≤ 128) × (16384 ≤ length (now area)) ⌝ }
-    ensures { λ r. ⌜ Followers (now (area .entry)) n r ⌝ }
+pub fn followers(area: &[u16], next: &mut [u16], n: usize)
+    requires { ⌜ (n ≤ 128) × (16384 ≤ length (now area)) × (length (now next) ≡ 16512) ⌝ }
+    ensures { λ _. ⌜ Followers (now (area .entry)) n (now (next .exit)) ⌝ }
 {
-    let mut next = [0u16; 16512];
     let mut c = 0;
     while c < n {
-        follow(area, &mut next, n, c);
+        let above = follow_above(area, next, n, c);
+        follow_below(area, next, n, c, above);
         c += 1;
     }
-    next
 }
 
 // The triplet of types c, a and b, where a is below b.

@@ -9,9 +9,10 @@ use Rattle.search.specs.Swept.{Swept}
 use Rattle.triplets.specs.Followers.{Follower}
 use Rattle.triplets.specs.Triplet.{inOrder}
 use Rattle.triplets.specs.declared.Triplet.{Triplet}
+use Rattle.triplets.proofs.Order.{mark-read}
 use Rattle.sweep.specs.Candidate.{IsTriplet, Candidate, WithFirst, Ready}
 use Rattle.sweep.proofs.Seated.{met-triplet}
-use Rattle.sweep.proofs.Walk.{Walk, walk-first, walk-next, follower-next, mark-read, still-ready, ready-inside, first-none, first-skipped, first-dropped, first-visited}
+use Rattle.sweep.proofs.Walk.{Walk, walk-first, walk-next, follower-next, still-ready, ready-inside, first-none, first-skipped, first-dropped, first-visited}
 use borrow.Author.Tests.{not-false}
 use Rattle.sweep.proofs.with_first.Statement.{statement}
 use Rattle.sweep.proofs.with_first.Tie as tie

@@ -1,25 +1,37 @@
 -- `triplets::followers` meets its contract: the lines of the types passed are filled.
-use Prim.Native.Nat.{ℕ, _-_}
+use mathlib.Core.Path.{sym, _∙_}
+use Prim.Native.Nat.{_-_}
 use native.Mathlib.Omega.{arith}
-use lib.ListN.{length-replicate}
-use Rattle.triplets.proofs.Filling.{Lines, no-line, one-line, all-lines}
+use Rattle.triplets.proofs.Filling.{filled-since, filled-then, Lines, no-line, one-line, all-lines}
 use Rattle.triplets.proofs.followers.Statement.{statement}
 use Rattle.triplets.proofs.followers.Tie as tie
 
 abbrev Inv-loop : tie.InvT-loop
-Inv-loop area n next₀ c₀ next c = Lines area n c next
+Inv-loop area next₀ n c₀ next c = Lines area n c next
 
 abbrev μ-loop : tie.MeasureT-loop
-μ-loop area n next₀ c₀ next c = n - c
+μ-loop area next₀ n c₀ next c = n - c
+
+-- The function's start.
+abbrev start : tie.At-loop Inv-loop μ-loop → tie.Start Inv-loop μ-loop
+start c = c .before .before .before
 
 loop-holds : tie.Need-loop-holds Inv-loop μ-loop
-loop-holds c = no-line _ _ _ (length-replicate {A = ℕ} 16512 0)
+loop-holds c = no-line _ _ _ (c .before .before .pre .2)
 
-slice-aggregate-follow : tie.Need-slice-aggregate-follow Inv-loop μ-loop
-slice-aggregate-follow c = omega (arith, c .before .before .loop .inv .size)
+follow-above-requires : tie.Need-follow-above-requires Inv-loop μ-loop
+follow-above-requires c κs =
+    let l = c .before .before in
+    let p = start l .pre in
+    (p .0, omega arith, p .1, l .loop .inv .size)
 
-follow-requires : tie.Need-follow-requires Inv-loop μ-loop
-follow-requires c κs = let l = c .before .before in (omega arith, omega arith, omega arith, l .loop .inv .size)
+follow-below-requires : tie.Need-follow-below-requires Inv-loop μ-loop
+follow-below-requires c κs =
+    let above = c .before .before .before in
+    let e = above .follow-above .ensures in
+    let l = above .before .before .before in
+    let p = start l .pre in
+    (p .0, omega arith, p .1, e .1 .size ∙ l .loop .inv .size, e .0, filled-since (e .1))
 
 add-c : tie.Need-add-c Inv-loop μ-loop
 add-c c = omega arith
@@ -29,7 +41,13 @@ loop-less c = omega arith
 
 loop-again : tie.Need-loop-again Inv-loop μ-loop
 loop-again c =
-    let l = c .before .before .before .before in one-line (omega arith) (omega arith) (l .loop .inv) (c .before .follow .ensures)
+    let below = c .before .before in
+    let above = below .before .before .before .before in
+    let l = above .before .before .before in
+    one-line (omega arith) (start l .pre .0) (l .loop .inv) (filled-then (above .follow-above .ensures .1) (below .follow-below .ensures))
+
+same-length : tie.Need-same-length Inv-loop μ-loop
+same-length c = let l = c .before in l .loop .inv .size ∙ sym (start l .pre .2)
 
 returns : tie.Need-returns Inv-loop μ-loop
 returns c = all-lines (omega arith) (c .before .loop .inv)
@@ -41,9 +59,10 @@ followers-spec =
     Inv-loop
     μ-loop
     loop-holds
-    slice-aggregate-follow
-    follow-requires
+    follow-above-requires
+    follow-below-requires
     add-c
     loop-less
     loop-again
+    same-length
     returns)

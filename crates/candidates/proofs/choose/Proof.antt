@@ -1,4 +1,4 @@
--- `candidates::fresh` meets its contract: the first sweep finds no candidate or lambda, and the second one all or too many.
+-- `candidates::choose` meets its contract: the first sweep finds no candidate or lambda, and the second one all or too many.
 use mathlib.Core.Path.{_≡_, refl, sym, ap, _∙_}
 use mathlib.Core.Logic.{_≢_}
 use Prim.Native.Nat.{ℕ, _+_}
@@ -11,15 +11,15 @@ use Rattle.search.specs.Swept.{Swept}
 use Rattle.search.specs.declared.Search.{Search}
 use Rattle.sweep.specs.Candidate.{Candidate, Everywhere}
 use Rattle.candidates.proofs.Chosen.{fresh-none, fresh-full, fresh-all}
-use Rattle.candidates.proofs.fresh.Statement.{statement}
-use Rattle.candidates.proofs.fresh.Tie as tie
+use Rattle.candidates.proofs.choose.Statement.{statement}
+use Rattle.candidates.proofs.choose.Tie as tie
 
 -- The function's start, as the first sweep has it, and that sweep, as the second one has it.
 abbrev start : tie.After-sweep → tie.Start
-start c = c .before .before .before .before .before .before .before .before .before .before
+start c = c .before .before .before .before .before .before .before .before .before
 
 abbrev not-none : tie.After-sweep2 → tie.Else1
-not-none c = c .before .before .before .before .before .before
+not-none c = c .before .before .before .before .before
 
 abbrev first : tie.After-sweep2 → tie.After-sweep
 first c = not-none c .before .before .before .before .before
@@ -33,22 +33,19 @@ module _ (c : tie.After-sweep) where
   everywhere = let a = start c .args in Everywhere (a .weights .now) (a .states .now) (a .area .now) (a .n) (a .made) (a .n)
 
   swept : Swept everywhere told (replicate 8192 0) (forLambda (start c .args .made)) (c .sweep .last .1 .1 .1 .1 .0) (c .sweep .result)
-  swept = rw (c .before .before .before .before .for-lambda .ensures) at (c .sweep .ensures .1)
+  swept = rw (c .before .before .before .for-lambda .ensures) at (c .sweep .ensures .1)
 
-  lambda-from : c .before .before .before .before .for-lambda .result .below ≡ 128001
-  lambda-from = ap (λ (s : Search). s .below) (c .before .before .before .before .for-lambda .ensures)
+  lambda-from : c .before .before .before .for-lambda .result .below ≡ 128001
+  lambda-from = ap (λ (s : Search). s .below) (c .before .before .before .for-lambda .ensures)
 
 all-swept : (c : tie.After-sweep2) → let f = first c in
     Swept (everywhere f) (told f) (f .sweep .last .1 .1 .1 .1 .0) (forAll (start f .args .made) (f .sweep .result .below + start f .args .epsilon + 1))
     (c .sweep2 .last .1 .1 .1 .1 .0) (c .sweep2 .result)
-all-swept c = rw (c .before .before .before .before .for-all .ensures) at (c .sweep2 .ensures .1)
+all-swept c = rw (c .before .before .before .for-all .ensures) at (c .sweep2 .ensures .1)
 
 -- There is a candidate.
 not-lambda : (c : tie.After-sweep2) → first c .sweep .result .below ≢ 128001
 not-lambda c e = not-none c .if1 .left (e ∙ sym (lambda-from (first c)))
-
-followers-requires : tie.Need-followers-requires
-followers-requires c κs = search needs
 
 guess-all-requires : tie.Need-guess-all-requires
 guess-all-requires c κs = search needs
@@ -62,15 +59,12 @@ slice-aggregate-sweep c = search needs
 slice-aggregate-sweep-2 : tie.Need-slice-aggregate-sweep-2
 slice-aggregate-sweep-2 c = search needs
 
-slice-aggregate-sweep-3 : tie.Need-slice-aggregate-sweep-3
-slice-aggregate-sweep-3 c = search needs
-
 sweep-requires : tie.Need-sweep-requires
 sweep-requires c κs =
-    let p = c .before .before .before .before .before .before .before .before .before .pre in
-    rw (c .before .before .before .for-lambda .ensures) (record {
+    let p = c .before .before .before .before .before .before .before .before .pre in
+    rw (c .before .before .for-lambda .ensures) (record {
       weighed = p .0;
-      follows = c .before .before .before .before .before .followers .ensures;
+      follows = p .6;
       current = p .1;
       room = omega (arith, p .2);
       lie = p .4;
@@ -98,22 +92,19 @@ add-for-all-2 c = omega (arith, swept (c .before .before .before .before .before
 for-all-requires : tie.Need-for-all-requires
 for-all-requires c κs = search needs
 
+slice-aggregate-sweep-3 : tie.Need-slice-aggregate-sweep-3
+slice-aggregate-sweep-3 c = search needs
+
 slice-aggregate-sweep-4 : tie.Need-slice-aggregate-sweep-4
-slice-aggregate-sweep-4 c = sym (c .before .before .before .before .before .before .before .before .before .before .before .before .before .before .followers .ensures .size)
-
-slice-aggregate-sweep-5 : tie.Need-slice-aggregate-sweep-5
-slice-aggregate-sweep-5 c = search needs
-
-slice-aggregate-sweep-6 : tie.Need-slice-aggregate-sweep-6
-slice-aggregate-sweep-6 c = search needs
+slice-aggregate-sweep-4 c = search needs
 
 sweep-requires-2 : tie.Need-sweep-requires-2
 sweep-requires-2 c κs =
-    let s = c .before .before .before .before .before .before .before .before .before .before in
+    let s = c .before .before .before .before .before .before .before .before .before in
     let p = start s .pre in
-    rw (c .before .before .before .for-all .ensures) (record {
+    rw (c .before .before .for-all .ensures) (record {
       weighed = p .0;
-      follows = s .before .before .before .before .before .before .followers .ensures;
+      follows = p .6;
       current = p .1;
       room = omega (arith, p .2);
       lie = p .4;
@@ -144,25 +135,22 @@ returns-3 c =
     let f = first s in
     fresh-all (swept f) (swept f .count-stays refl) (start f .args .epsilon) (not-lambda s) (all-swept s) (c .before .before .if2 .left) (c .added-rows .ensures)
 
-pub fresh-spec : {M : Type 1} → statement M
-fresh-spec =
+pub choose-spec : {M : Type 1} → statement M
+choose-spec =
     tie.close
     (tie.spec
-    followers-requires
     guess-all-requires
     for-lambda-requires
     slice-aggregate-sweep
     slice-aggregate-sweep-2
-    slice-aggregate-sweep-3
     sweep-requires
     none-requires
     returns
     add-for-all
     add-for-all-2
     for-all-requires
+    slice-aggregate-sweep-3
     slice-aggregate-sweep-4
-    slice-aggregate-sweep-5
-    slice-aggregate-sweep-6
     sweep-requires-2
     none-requires-2
     returns-2
