@@ -27,7 +27,9 @@ sorted (suc n) f = put (f n) (sorted n f)
 abbrev pub placeIn : Bytes → ℕ → Bytes → ℕ
 placeIn rows count row = first count (λ i. not (before (storedAt rows i) row))
 
+-- The rows from number i on.
+abbrev pub rowsFrom : Bytes → ℕ → ℕ → Bytes
+rowsFrom rows i count = take (64 * (count - i)) (drop (64 * i) rows)
+
 unfoldable pub withRow : Bytes → ℕ → Bytes → Bytes
-withRow rows count row =
-    let i = placeIn rows count row in
-    placed rows (64 * i) (row ++ take (64 * (count - i)) (drop (64 * i) rows))
+withRow rows count row = let i = placeIn rows count row in placed rows (64 * i) (row ++ rowsFrom rows i count)

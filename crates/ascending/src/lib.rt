@@ -1,11 +1,11 @@
-// The room of ascending order: rows sorted by their bytes. It reads the rows and writes nothing lent from above.
+// The room of ascending order: rows sorted by their bytes, in the memory in which they lie.
 
 ghost use mathlib.Core.Path.{_≡_};
 ghost use Prim.Native.Nat.{_+_, _*_, _≤_, _<_};
 ghost use lib.ListN.{length};
-ghost use Rattle.rules.specs.Call.{padded};
+ghost use Rattle.memory.specs.Placed.{placed};
 ghost use Rattle.types.specs.State.{storedAt, laid};
-ghost use Rattle.ascending.specs.Sorted.{before, placeIn, withRow, sorted};
+ghost use Rattle.ascending.specs.Sorted.{before, placeIn, rowsFrom, withRow, sorted};
 use memory::copy;
 use types::row_at;
 
@@ -42,32 +42,38 @@ fn place(rows: &[u8], count: usize, row: &[u8; 64]) -> usize
     i
 }
 
+// The rows from number `from` on move up by one.
+fn move_up(rows: &mut [u8], from: usize, count: usize)
+    requires { ⌜ (from ≤ count) × (count < 128) × (length (now rows) ≡ 8192) ⌝ }
+    ensures { λ _. ⌜ now (rows .exit) ≡ placed (now (rows .entry)) (64 * from + 64) (rowsFrom (now (rows .entry)) from count) ⌝ }
+{
+    let mut i = count;
+    while from < i {
+        i -= 1;
+        let row = row_at(rows, i);
+        copy(&row, rows, 64 * i + 64);
+    }
+}
+
 // Puts a row into its place, and those from there on move up.
 fn insert(rows: &mut [u8], count: usize, row: &[u8; 64])
     requires { ⌜ (count < 128) × (length (now rows) ≡ 8192) ⌝ }
     ensures { λ _. ⌜ now (rows .exit) ≡ withRow (now (rows .entry)) count (now (row .entry)) ⌝ }
 {
     let i = place(rows, count, row);
-    let from = 64 * i;
-    let to = 64 * count;
-    let size = to - from;
-    let mut later = [0u8; 8192];
-    copy(&rows[from..to], &mut later, 0);
-    copy(row, rows, from);
-    copy(&later[..size], rows, from + 64);
+    move_up(rows, i, count);
+    copy(row, rows, 64 * i);
 }
 
-// The rows in ascending order, and zeros behind them.
-pub fn ascending(found: &[u8], count: usize) -> [u8; 8192]
-    requires { ⌜ (count ≤ 128) × (64 * count ≤ length (now found)) ⌝ }
-    ensures { λ r. ⌜ r ≡ padded 8192 (laid (sorted count (storedAt (now (found .entry))))) ⌝ }
+// Puts the rows into ascending order. What is behind them stays.
+pub fn ascending(rows: &mut [u8], count: usize)
+    requires { ⌜ (count ≤ 128) × (length (now rows) ≡ 8192) ⌝ }
+    ensures { λ _. ⌜ now (rows .exit) ≡ placed (now (rows .entry)) 0 (laid (sorted count (storedAt (now (rows .entry))))) ⌝ }
 {
-    let mut rows = [0u8; 8192];
     let mut k = 0;
     while k < count {
-        let row = row_at(found, k);
-        insert(&mut rows, k, &row);
+        let row = row_at(rows, k);
+        insert(rows, k, &row);
         k += 1;
     }
-    rows
 }

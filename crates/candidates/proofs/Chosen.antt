@@ -1,6 +1,6 @@
 -- From the two sweeps to the rows that a round adds: the first one finds lambda, the least cost of any candidate, and the second one
 -- gathers the candidates of a cost of at most lambda and epsilon, or finds more of them than there is room for.
-use mathlib.Core.Path.{_≡_, refl, sym, _∙_}
+use mathlib.Core.Path.{_≡_, refl, sym, ap, _∙_}
 use mathlib.Core.Logic.{_≢_, ⊎-elim}
 use mathlib.Core.Bool.{true, false, cond, false≢true}
 use mathlib.Core.List.{List, []}
@@ -8,21 +8,25 @@ use Prim.Native.Nat.{ℕ, _+_, _*_, _≤_, _<_}
 use native.Mathlib.Decide.{decLt}
 use native.Mathlib.Omega.{arith}
 use lib.Dec.{ltb}
-use lib.ListN.{length, replicate, length-replicate}
+use lib.ListN.{length, getD, drop, replicate, length-drop, length-replicate}
+use lib.Seq.{getD-drop, ext-getD}
 use borrow.Author.Tests.{lt-ltb, le-ltb}
 use Rattle.graph.specs.Below.{gather}
 use Rattle.rules.specs.Job.{Bytes}
 use Rattle.rules.specs.Call.{padded}
+use Rattle.memory.specs.Placed.{placed}
+use Rattle.memory.proofs.Placed.{length-placed, placed-padded}
 use Rattle.types.specs.State.{storedAt, laid}
 use Rattle.distances.specs.Area.{Weighed}
 use Rattle.ascending.specs.Sorted.{sorted}
 use Rattle.ascending.proofs.Sorted.{in-sorted, length-sorted, sorted-ascends}
+use Rattle.ascending.proofs.Inserted.{length-laid-sorted}
 use Rattle.search.specs.Search.{forLambda, forAll}
 use Rattle.search.specs.declared.Search.{Search}
 use Rattle.search.specs.Swept.{Gathered, Swept}
 use Rattle.sweep.specs.Candidate.{Candidate, Faithful, Everywhere}
 use Rattle.candidates.specs.declared.Added.{Added}
-use Rattle.candidates.specs.Fresh.{InWindow, All, TooMany, Fresh, IsNone, IsSorted}
+use Rattle.candidates.specs.Fresh.{InWindow, All, TooMany, Fresh, NoneFits}
 use Rattle.sweep.proofs.Dropped.{gives-small}
 use Rattle.sweep.proofs.Seated.{candidate-met}
 
@@ -49,6 +53,15 @@ none-added r nowhere count-is rows-are = record {
   rows-are = rows-are;
 }
 
+-- Bytes in front of memory: it matters only what is behind them.
+same-behind : (b b′ xs : Bytes) → length b ≡ length b′ → ((p : ℕ) → length xs ≤ p → getD b p 0 ≡ getD b′ p 0) → placed b 0 xs ≡ placed b′ 0 xs
+unfolding placed
+same-behind b b′ xs size same =
+    let n = 0 + length xs in
+    let behind : drop n b ≡ drop n b′ = ext-getD 0 _ _ (rw (length-drop, length-drop, size)) (λ p h.
+    getD-drop n b p 0 ∙ same (n + p) (omega arith) ∙ sym (getD-drop n b′ p 0)) in
+    rw behind
+
 -- So many rows found, and one behind them.
 module _ (found : Bytes) (count : ℕ) (row : Bytes) where
   unfoldable withLast : ℕ → Bytes
@@ -64,12 +77,18 @@ module _ (found : Bytes) (count : ℕ) (row : Bytes) where
 
 module _ {ws : List ℕ} {states : Bytes} {area : List ℕ} {n made : ℕ} where
   -- The first sweep, in which no row is found.
-  module _ {found₀ found₁ : Bytes} {least : Search}
-      (first : Swept (Everywhere ws states area n made n) (Candidate ws states area n made) found₀ (forLambda made) found₁ least)
-      (none : least .count ≡ 0) where
+  module _ {found₁ : Bytes} {least : Search}
+      (first : Swept (Everywhere ws states area n made n) (Candidate ws states area n made) (replicate 8192 0) (forLambda made) found₁ least) where
+    none : least .count ≡ 0
+    none = first .count-stays refl
+
+    -- The memory for rows holds zeros still.
+    still-zeros : found₁ ≡ replicate 8192 0
+    still-zeros = ext-getD 0 found₁ (replicate 8192 0) (first .size) (λ p h. first .rest-stays p (omega (arith, none)))
+
     lowest : Faithful ws states area n → (x : Bytes) (cost : ℕ) → Candidate ws states area n made x cost → least .below ≤ cost
     lowest faithful x cost k =
-        ⊎-elim (λ l. l) (λ d. absurd (omega (arith, d .1))) (first .deals x cost (candidate-met faithful x cost k))
+        ⊎-elim (λ l. l) (λ d. absurd (omega (arith, none, d .1))) (first .deals x cost (candidate-met faithful x cost k))
 
     lambda-found : Faithful ws states area n → least .below ≢ 128001 → IsLambda ws states area n made (least .below)
     lambda-found faithful lower =
@@ -77,14 +96,14 @@ module _ {ws : List ℕ} {states : Bytes} {area : List ℕ} {n made : ℕ} where
 
     -- There is no candidate.
     pub fresh-none : (e : ℕ) → Weighed ws → n ≤ made → made ≤ 128 → 64 * made ≤ length states → least .below ≡ 128001 →
-        {r : Added} → IsNone false r → Fresh ws states area n made e r
-    fresh-none e weighed few room lie high {r} (rows-are, count-is, open-is) = record {
-      size = rw rows-are (simp length-replicate);
+        Fresh ws states area n made e (record { rows = found₁; count = 0; full = false })
+    fresh-none e weighed few room lie high = record {
+      size = first .size ∙ simp length-replicate;
       room = omega arith;
       all = λ faithful _.
-          none-added r (λ x cost k. omega (arith, lowest faithful x cost k, candidate-small weighed few lie k)) count-is rows-are;
-      too-many = λ _ f. absurd (false≢true (sym open-is ∙ f));
-      none-then = λ f. (count-is, rows-are);
+          none-added _ (λ x cost k. omega (arith, lowest faithful x cost k, candidate-small weighed few lie k)) refl still-zeros;
+      too-many = λ _ f. absurd (false≢true f);
+      none-then = λ f. (refl, still-zeros);
     }
 
     -- The second sweep.
@@ -146,7 +165,7 @@ module _ {ws : List ℕ} {states : Bytes} {area : List ℕ} {n made : ℕ} where
             }
 
       -- There is no room.
-      pub fresh-full : made ≤ 128 → all .full ≡ true → {r : Added} → IsNone true r → Fresh ws states area n made e r
+      pub fresh-full : made ≤ 128 → all .full ≡ true → {r : Added} → NoneFits r → Fresh ws states area n made e r
       fresh-full room full {r} (rows-are, count-is, full-is) = record {
         size = rw rows-are (simp length-replicate);
         room = omega arith;
@@ -156,11 +175,25 @@ module _ {ws : List ℕ} {states : Bytes} {area : List ℕ} {n made : ℕ} where
       }
 
       -- There is room for all.
-      pub fresh-all : all .full ≡ false → {r : Added} → IsSorted found₂ (all .count) r → Fresh ws states area n made e r
-      fresh-all open-is {r} (size, rows-are, count-is, full-is) = record {
-        size = size;
+      pub fresh-all : all .full ≡ false → {rows : Bytes} → rows ≡ placed found₂ 0 (laid (sorted (all .count) (storedAt found₂))) →
+          Fresh ws states area n made e (record { rows = rows; count = all .count; full = false })
+      fresh-all open-is {rows} sorts = record {
+        size = ap length sorts ∙ length-placed found₂ _ 0 (omega (arith, long, second .room, size)) ∙ size;
         room = omega (arith, second .room, second .made-stays);
-        all = λ faithful _. all-gathered faithful r open-is count-is rows-are;
-        too-many = λ _ f. absurd (false≢true (sym full-is ∙ f));
-        none-then = λ f. absurd (false≢true (sym full-is ∙ f));
+        all = λ faithful _. all-gathered faithful _ open-is refl rows-are;
+        too-many = λ _ f. absurd (false≢true f);
+        none-then = λ f. absurd (false≢true f);
       }
+        where
+          size : length found₂ ≡ 8192
+          size = second .size ∙ first .size ∙ length-replicate {A = ℕ} 8192 0
+
+          long : length (laid (sorted (all .count) (storedAt found₂))) ≡ 64 * all .count
+          long = length-laid-sorted found₂ (all .count) (omega (arith, second .room, size))
+
+          rows-are : rows ≡ padded 8192 (laid (sorted (all .count) (storedAt found₂)))
+          rows-are =
+              sorts
+              ∙ same-behind found₂ (replicate 8192 0) _ (second .size ∙ first .size)
+              (λ p h. second .rest-stays p (omega (arith, long)) ∙ ap (λ (b : Bytes). getD b p 0) still-zeros)
+              ∙ placed-padded 8192 _

@@ -1,7 +1,7 @@
 -- The rows that a round adds.
 use mathlib.Core.Path.{_≡_}
 use mathlib.Core.Logic.{_↔_}
-use mathlib.Core.Bool.{Bool, true, false}
+use mathlib.Core.Bool.{true, false}
 use mathlib.Core.List.{List}
 use Prim.Native.Nat.{ℕ, _+_, _≤_, _<_}
 use lib.ListN.{length, replicate}
@@ -9,17 +9,13 @@ use Rattle.graph.proofs.Below.{In}
 use Rattle.rules.specs.Job.{Bytes}
 use Rattle.rules.specs.Call.{padded}
 use Rattle.rules.proofs.Rounds.{AscendingRows}
-use Rattle.types.specs.State.{storedAt, laid}
-use Rattle.ascending.specs.Sorted.{sorted}
+use Rattle.types.specs.State.{laid}
 use Rattle.sweep.specs.Candidate.{Candidate, Faithful}
 use Rattle.candidates.specs.declared.Added.{Added}
 
--- No row, because there is no candidate or no room; and the first rows of some memory, ascending.
-abbrev pub IsNone : Bool → Added → Type 0
-IsNone full r = (r .rows ≡ replicate 8192 0) × (r .count ≡ 0) × (r .full ≡ full)
-
-abbrev pub IsSorted : Bytes → ℕ → Added → Type 0
-IsSorted found count r = (length (r .rows) ≡ 8192) × (r .rows ≡ padded 8192 (laid (sorted count (storedAt found)))) × (r .count ≡ count) × (r .full ≡ false)
+-- No row, because there is no room.
+abbrev pub NoneFits : Added → Type 0
+NoneFits r = (r .rows ≡ replicate 8192 0) × (r .count ≡ 0) × (r .full ≡ true)
 
 -- A candidate that the round adds: one of its costs is at most the cost of any candidate and epsilon.
 pub record InWindow (ws : List ℕ) (states : Bytes) (area : List ℕ) (n made e : ℕ) (x : Bytes) : Type 0 where

@@ -6,7 +6,7 @@ ghost use Prim.Native.Nat.{_*_, _≤_};
 ghost use lib.ListN.{length};
 ghost use Rattle.distances.specs.Area.{Weighed};
 ghost use Rattle.triplets.specs.Followers.{Followers};
-ghost use Rattle.candidates.specs.Fresh.{IsNone, IsSorted, Fresh};
+ghost use Rattle.candidates.specs.Fresh.{NoneFits, Fresh};
 use ascending::ascending;
 use known::guess_all;
 use search::Search;
@@ -20,28 +20,15 @@ pub struct Added {
     pub full: bool,
 }
 
-// No row is added: there is no candidate, or no room.
-fn none(full: bool) -> Added
-    ensures { λ r. ⌜ IsNone full r ⌝ }
+// No row is added, because there is no room.
+fn none_fits() -> Added
+    ensures { λ r. ⌜ NoneFits r ⌝ }
 {
     let rows = [0u8; 8192];
     Added {
         rows,
         count: 0,
-        full,
-    }
-}
-
-// The rows found are added, ascending.
-fn added_rows(found: &[u8], count: usize) -> Added
-    requires { ⌜ (count ≤ 128) × (length (now found) ≡ 8192) ⌝ }
-    ensures { λ r. ⌜ IsSorted (now (found .entry)) count r ⌝ }
-{
-    let rows = ascending(found, count);
-    Added {
-        rows,
-        count,
-        full: false,
+        full: true,
     }
 }
 
@@ -61,20 +48,15 @@ fn choose(
     ensures { λ r. ⌜ Fresh (now (weights .entry)) (now (states .entry)) (now (area .entry)) n made epsilon r ⌝ }
 {
     let mut guesses = guess_all(states, made);
-    let mut found = [0u8; 8192];
+    let mut rows = [0u8; 8192];
     let any = Search::for_lambda(made);
-    let least = sweep(
-        states,
-        area,
-        weights,
-        next,
-        &mut found,
-        &mut guesses,
-        n,
-        any,
-    );
+    let least = sweep(states, area, weights, next, &mut rows, &mut guesses, n, any);
     if least.below == any.below {
-        return none(false);
+        return Added {
+            rows,
+            count: 0,
+            full: false,
+        };
     }
     let window = Search::for_all(made, least.below + epsilon + 1);
     let all = sweep(
@@ -82,15 +64,20 @@ fn choose(
         area,
         weights,
         next,
-        &mut found,
+        &mut rows,
         &mut guesses,
         n,
         window,
     );
     if all.full {
-        return none(true);
+        return none_fits();
     }
-    added_rows(&found, all.count)
+    ascending(&mut rows, all.count);
+    Added {
+        rows,
+        count: all.count,
+        full: false,
+    }
 }
 
 // The rows that a round adds, where n types are current.

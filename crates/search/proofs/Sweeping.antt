@@ -37,6 +37,7 @@ module _ {given : Rows} where
       s .made + s .count ≤ 128 → Swept asked given found s found s
   swept-none {found} {s} dealt room = record {
     size = refl;
+    rest-stays = λ p h. refl;
     made-stays = refl;
     aim-stays = refl;
     room = room;
@@ -99,11 +100,20 @@ module _ {given : Rows} where
         by-first e f true g = crowd-first (a .crowd e g)
         by-first e f false g = crowd-second (b .crowd g f)
 
+  -- No row found is lost.
+  no-fewer : {A : Rows} {found found′ : Bytes} {s s′ : Search} → Swept A given found s found′ s′ → s .count ≤ s′ .count
+  no-fewer {s} {s′} a = by-aim (s .gathering) refl
+    where
+      by-aim : (gathering : Bool) → s .gathering ≡ gathering → s .count ≤ s′ .count
+      by-aim false e = omega (arith, a .count-stays e)
+      by-aim true e = a .gathers e .no-fewer
+
   -- One sweep after the other deals with all that either is asked for.
   pub swept-more : {A B C : Rows} {f₀ f₁ f₂ : Bytes} {s₀ s₁ s₂ : Search} → Swept A given f₀ s₀ f₁ s₁ → Swept B given f₁ s₁ f₂ s₂ →
       ((x : Bytes) (cost : ℕ) → C x cost → A x cost ⊎ B x cost) → Swept C given f₀ s₀ f₂ s₂
   swept-more {s₀} {s₁} {s₂} a b which = record {
     size = b .size ∙ a .size;
+    rest-stays = λ p h. b .rest-stays p h ∙ a .rest-stays p (omega (arith, no-fewer b));
     made-stays = b .made-stays ∙ a .made-stays;
     aim-stays = b .aim-stays ∙ a .aim-stays;
     room = b .room;
@@ -147,6 +157,7 @@ pub swept-as : {A A′ G G′ : Rows} {found found′ : Bytes} {s s′ : Search}
     ((x : Bytes) (cost : ℕ) → G x cost → G′ x cost) → Swept A G found s found′ s′ → Swept A′ G′ found s found′ s′
 swept-as {s′} fewer more a = record {
   size = a .size;
+  rest-stays = a .rest-stays;
   made-stays = a .made-stays;
   aim-stays = a .aim-stays;
   room = a .room;

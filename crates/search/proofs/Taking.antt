@@ -10,7 +10,7 @@ use borrow.Author.Tests.{eq-eqb, ne-eqb}
 use Rattle.rules.specs.Job.{Bytes}
 use Rattle.rules.proofs.Block.{stands-part}
 use Rattle.memory.specs.Placed.{placed}
-use Rattle.memory.proofs.Placed.{stands-placed, length-placed, getD-placed-before}
+use Rattle.memory.proofs.Placed.{stands-placed, length-placed, getD-placed-before, getD-placed-behind}
 use Rattle.types.specs.State.{storedAt}
 use Rattle.types.proofs.State.{storedAt-is, storedAt-state, length-storedAt}
 use Rattle.search.specs.declared.Search.{Search}
@@ -52,6 +52,7 @@ module _ (asked given : Rows) (found : Bytes) (s : Search) (row : Bytes) (cost :
   swept-lowered : s .gathering ≡ false → Swept asked given found s found (lowered s cost)
   swept-lowered e = record {
     size = refl;
+    rest-stays = λ p h. refl;
     made-stays = refl;
     aim-stays = refl;
     room = room;
@@ -66,6 +67,7 @@ module _ (asked given : Rows) (found : Bytes) (s : Search) (row : Bytes) (cost :
   swept-filled : s .gathering ≡ true → s .made + s .count ≡ 128 → Swept asked given found s found (filled s)
   swept-filled e full = record {
     size = refl;
+    rest-stays = λ p h. refl;
     made-stays = refl;
     aim-stays = refl;
     room = room;
@@ -97,6 +99,7 @@ module _ (asked given : Rows) (found : Bytes) (s : Search) (row : Bytes) (cost :
         Swept asked given found s (placed found (64 * s .count) row) (withOne s)
     swept-one e free = record {
       size = one-size found (s .count) row wide fits;
+      rest-stays = λ p h. getD-placed-behind found row (64 * s .count) (omega arith) p 0 (omega arith);
       made-stays = refl;
       aim-stays = refl;
       room = omega arith;

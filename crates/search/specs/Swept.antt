@@ -3,8 +3,8 @@ use mathlib.Core.Path.{_≡_}
 use mathlib.Core.Logic.{_≢_, _⊎_}
 use mathlib.Core.Bool.{true, false}
 use mathlib.Core.List.{List}
-use Prim.Native.Nat.{ℕ, _+_, _≤_, _<_}
-use lib.ListN.{length}
+use Prim.Native.Nat.{ℕ, _+_, _*_, _≤_, _<_}
+use lib.ListN.{length, getD}
 use Rattle.rules.specs.Job.{Bytes}
 use Rattle.rules.specs.Types.{rowAt}
 use Rattle.rules.specs.Median.{medians, connection}
@@ -54,9 +54,10 @@ pub record Gathered (given : Bytes → ℕ → Type 0) (found : Bytes) (s : Sear
   pub still-open : s′ .full ≡ false → (s .full ≡ false) × (s′ .below ≡ s .below)
   pub crowd : s .full ≡ false → s′ .full ≡ true → Crowd given (s .below) found′ s′
 
--- Every row asked for is dealt with, and whatever the search has come to, it has from rows given.
+-- Every row asked for is dealt with, and whatever the search has come to, it has from rows given. Behind the rows found nothing changes.
 pub record Swept (asked given : Bytes → ℕ → Type 0) (found : Bytes) (s : Search) (found′ : Bytes) (s′ : Search) : Type 0 where
   pub size : length found′ ≡ length found
+  pub rest-stays : (p : ℕ) → 64 * s′ .count ≤ p → getD found′ p 0 ≡ getD found p 0
   pub made-stays : s′ .made ≡ s .made
   pub aim-stays : s′ .gathering ≡ s .gathering
   pub room : s′ .made + s′ .count ≤ 128

@@ -1,5 +1,5 @@
 -- `candidates::choose` meets its contract: the first sweep finds no candidate or lambda, and the second one all or too many.
-use mathlib.Core.Path.{_≡_, refl, sym, ap, _∙_}
+use mathlib.Core.Path.{_≡_, sym, ap, _∙_}
 use mathlib.Core.Logic.{_≢_}
 use Prim.Native.Nat.{ℕ, _+_}
 use native.Mathlib.Omega.{arith}
@@ -74,14 +74,11 @@ sweep-requires c κs =
       low = omega arith;
     })
 
-none-requires : tie.Need-none-requires
-none-requires c κs = search needs
-
 returns : tie.Need-returns
 returns c =
-    let s = c .before .before .before .before .before .before in
+    let s = c .before .before .before .before .before in
     let p = start s .pre in
-    fresh-none (swept s) (swept s .count-stays refl) (start s .args .epsilon) (p .0) (p .1) (p .2) (p .4) (c .before .if1 .taken ∙ lambda-from s) (c .none .ensures)
+    fresh-none (swept s) (start s .args .epsilon) (p .0) (p .1) (p .2) (p .4) (c .if1 .taken ∙ lambda-from s)
 
 add-for-all : tie.Need-add-for-all
 add-for-all c = omega (arith, swept (c .before .before .before .before .before .before) .no-higher, start (c .before .before .before .before .before .before) .pre .3)
@@ -114,26 +111,26 @@ sweep-requires-2 c κs =
       low = omega (arith, swept s .no-higher, p .3);
     })
 
-none-requires-2 : tie.Need-none-requires-2
-none-requires-2 c κs = search needs
+none-fits-requires : tie.Need-none-fits-requires
+none-fits-requires c κs = search needs
 
 returns-2 : tie.Need-returns-2
 returns-2 c =
     let s = c .before .before .before .before in
     let f = first s in
-    fresh-full (swept f) (swept f .count-stays refl) (start f .args .epsilon) (not-lambda s) (all-swept s) (start f .pre .2) (c .before .if2 .taken) (c .none2 .ensures)
+    fresh-full (swept f) (start f .args .epsilon) (not-lambda s) (all-swept s) (start f .pre .2) (c .before .if2 .taken) (c .none-fits .ensures)
 
-slice-aggregate-added-rows : tie.Need-slice-aggregate-added-rows
-slice-aggregate-added-rows c = search needs
+slice-aggregate-ascending : tie.Need-slice-aggregate-ascending
+slice-aggregate-ascending c = search needs
 
-added-rows-requires : tie.Need-added-rows-requires
-added-rows-requires c κs = search needs
+ascending-requires : tie.Need-ascending-requires
+ascending-requires c κs = search needs
 
 returns-3 : tie.Need-returns-3
 returns-3 c =
-    let s = c .before .before .before .before .before in
+    let s = c .before .before .before .before .before .before in
     let f = first s in
-    fresh-all (swept f) (swept f .count-stays refl) (start f .args .epsilon) (not-lambda s) (all-swept s) (c .before .before .if2 .left) (c .added-rows .ensures)
+    fresh-all (swept f) (start f .args .epsilon) (not-lambda s) (all-swept s) (c .before .before .before .if2 .left) (c .before .ascending .ensures)
 
 pub choose-spec : {M : Type 1} → statement M
 choose-spec =
@@ -144,7 +141,6 @@ choose-spec =
     slice-aggregate-sweep
     slice-aggregate-sweep-2
     sweep-requires
-    none-requires
     returns
     add-for-all
     add-for-all-2
@@ -152,8 +148,8 @@ choose-spec =
     slice-aggregate-sweep-3
     slice-aggregate-sweep-4
     sweep-requires-2
-    none-requires-2
+    none-fits-requires
     returns-2
-    slice-aggregate-added-rows
-    added-rows-requires
+    slice-aggregate-ascending
+    ascending-requires
     returns-3)
