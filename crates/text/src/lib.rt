@@ -7,7 +7,7 @@ ghost use lib.Dec.{leb};
 ghost use lib.ListN.{length, replicate};
 ghost use Rattle.memory.specs.Placed.{Follows};
 ghost use Rattle.listing.specs.Lines.{Legible, legible, networkOf};
-ghost use Rattle.text.specs.Printed.{ToldText, textRoom, refusalOf, RefusalLeft, TextLeft};
+ghost use Rattle.text.specs.Printed.{ToldText, refusalOf, lineRoom, networkRoom, briefRoom, Suffices, RefusalWithin, RefusalLeft, TextWithin, TextLeft, BriefLeft};
 use answers::Told;
 use answers::tell;
 use lines::put;
@@ -63,7 +63,7 @@ fn is_legible(job: &[u8], block: &[u8]) -> bool
 
 // A refusal is one line.
 fn put_refusal(number: usize, place: usize, out: &mut [u8]) -> usize
-    requires { ⌜ 172718 ≤ length (now out) ⌝ }
+    requires { ⌜ lineRoom ≤ length (now out) ⌝ }
     ensures { λ r. ⌜ Follows (now (out .entry)) 0 (refusalOf number place) (now (out .exit)) r ⌝ }
 {
     let at = say(out, 0, b"refused ", number);
@@ -72,7 +72,7 @@ fn put_refusal(number: usize, place: usize, out: &mut [u8]) -> usize
 }
 
 fn put_network<'a>(job: &'a [u8], block: &'a [u8], out: &mut [u8]) -> usize
-    requires { ⌜ Legible (now job) (now block) × (172718 ≤ length (now out)) ⌝ }
+    requires { ⌜ Legible (now job) (now block) × (networkRoom (now block) ≤ length (now out)) ⌝ }
     ensures { λ r. ⌜ Follows (now (out .entry)) 0 (networkOf (now (job .entry)) (now (block .entry))) (now (out .exit)) r ⌝ }
 {
     let at = put_head(block, out, 0);
@@ -80,34 +80,50 @@ fn put_network<'a>(job: &'a [u8], block: &'a [u8], out: &mut [u8]) -> usize
     put_links(block, out, at)
 }
 
-// Zeros to the end, and whether there is room for every text.
-fn make_room(out: &mut [u8]) -> bool
-    ensures { λ r. ⌜ (now (out .exit) ≡ replicate (length (now (out .entry))) 0) × (r ≡ leb textRoom (length (now (out .entry)))) ⌝ }
+// Zeros to the end, and whether there are so many bytes.
+fn make_room(room: usize, out: &mut [u8]) -> bool
+    ensures { λ r. ⌜ (now (out .exit) ≡ replicate (length (now (out .entry))) 0) × (r ≡ leb room (length (now (out .entry)))) ⌝ }
 {
     clear_bytes(out);
-    172718 <= out.len()
+    room <= out.len()
 }
 
-// The line of a refusal, whatever was refused. Zeros follow it to the end; without a text there are zeros throughout.
-pub fn refusal_text(number: usize, place: usize, out: &mut [u8]) -> Printed
-    ensures { λ r. ⌜ RefusalLeft number place (length (now (out .entry))) (now (out .exit)) r ⌝ }
+// The line of a refusal where so many bytes are lent. Zeros follow it to the end; without a text there are zeros throughout.
+fn refusal_within(number: usize, place: usize, room: usize, out: &mut [u8]) -> Printed
+    requires { ⌜ lineRoom ≤ room ⌝ }
+    ensures { λ r. ⌜ RefusalWithin number place room (length (now (out .entry))) (now (out .exit)) r ⌝ }
 {
-    if !make_room(out) {
+    if !make_room(room, out) {
         return Printed::Room;
     }
     let used = put_refusal(number, place, out);
     Printed::Done { used }
 }
 
-// The text of an answer: the network in the result block, read with its job, or the refusal. Zeros follow it here too.
-pub fn text<'a>(job: &'a [u8], block: &'a [u8], answer: Answer, out: &mut [u8]) -> Printed
-    ensures { λ r. ⌜ TextLeft (now (job .entry)) (now (block .entry)) answer (length (now (out .entry))) (now (out .exit)) r ⌝ }
+// The line of a refusal, whatever was refused, where there is room for every text.
+pub fn refusal_text(number: usize, place: usize, out: &mut [u8]) -> Printed
+    ensures { λ r. ⌜ RefusalLeft number place (length (now (out .entry))) (now (out .exit)) r ⌝ }
+{
+    refusal_within(number, place, 172718, out)
+}
+
+// The text of an answer where so many bytes are lent: the network in the result block, read with its job, or the refusal. Zeros follow it
+// here too.
+fn text_within<'a>(
+    job: &'a [u8],
+    block: &'a [u8],
+    answer: Answer,
+    room: usize,
+    out: &mut [u8],
+) -> Printed
+    requires { ⌜ Suffices (now job) (now block) answer room ⌝ }
+    ensures { λ r. ⌜ TextWithin (now (job .entry)) (now (block .entry)) answer room (length (now (out .entry))) (now (out .exit)) r ⌝ }
 {
     let told = tell(answer);
     if told.number != 0 {
-        return refusal_text(told.number, told.place, out);
+        return refusal_within(told.number, told.place, room, out);
     }
-    if !make_room(out) {
+    if !make_room(room, out) {
         return Printed::Room;
     }
     if !is_legible(job, block) {
@@ -115,4 +131,33 @@ pub fn text<'a>(job: &'a [u8], block: &'a [u8], answer: Answer, out: &mut [u8]) 
     }
     let used = put_network(job, block, out);
     Printed::Done { used }
+}
+
+// The text of an answer, where there is room for every text.
+pub fn text<'a>(job: &'a [u8], block: &'a [u8], answer: Answer, out: &mut [u8]) -> Printed
+    ensures { λ r. ⌜ TextLeft (now (job .entry)) (now (block .entry)) answer (length (now (out .entry))) (now (out .exit)) r ⌝ }
+{
+    text_within(job, block, answer, 172718, out)
+}
+
+// The bytes that are enough for the text of this answer, by the numbers of types and links that the block says.
+fn brief_room(block: &[u8], answer: Answer) -> usize
+    ensures { λ r. ⌜ r ≡ briefRoom (now (block .entry)) answer ⌝ }
+{
+    let told = tell(answer);
+    if told.number != 0 {
+        return 50;
+    }
+    if block.len() < 16 {
+        return 0;
+    }
+    46 + 79 * word_at(block, 0) + 20 * word_at(block, 6)
+}
+
+// The text of an answer, where there is room for this one. A small network needs little memory so.
+pub fn brief<'a>(job: &'a [u8], block: &'a [u8], answer: Answer, out: &mut [u8]) -> Printed
+    ensures { λ r. ⌜ BriefLeft (now (job .entry)) (now (block .entry)) answer (length (now (out .entry))) (now (out .exit)) r ⌝ }
+{
+    let room = brief_room(block, answer);
+    text_within(job, block, answer, room, out)
 }
