@@ -5,7 +5,7 @@ use mathlib.Core.List.{List, []}
 use Prim.Native.Nat.{ℕ, _+_, _*_, _≤_}
 use native.Mathlib.Omega.{arith}
 use lib.Dec.{ltb, eqb}
-use lib.ListN.{length, replicate, length-append, length-replicate}
+use lib.ListN.{length, length-append}
 use borrow.Author.Tests.{eq-eqb, ne-eqb, le-leb}
 use Rattle.rules.specs.Answers.{number}
 use Rattle.rules.specs.Job.{Bytes, word, checked}
@@ -15,7 +15,6 @@ use Rattle.rules.specs.Call.{Verdict, refused, found, verdict, answer, padded, 
 use Rattle.rules.specs.Text.{printed}
 use Rattle.rules.specs.declared.Answer.{Answer}
 use Rattle.rules.specs.declared.Link.{Link}
-use Rattle.ordered.specs.Order.{noLink}
 use Rattle.found.proofs.Found.{found-is, verdict-numbered}
 use Rattle.found.proofs.Result.{few-links, read-result, header-matches, links-counted, links-reach}
 use Rattle.listing.specs.Lines.{legible}
@@ -23,7 +22,7 @@ use Rattle.text.specs.Printed.{printedUsed, textRoom, textOf, printedAs, printe
 use Rattle.text.specs.declared.Printed.{Printed}
 use Rattle.text.specs.declared.Printed.the-variants.{Done, Room}
 use Rattle.network.specs.Called.{lentBy, Called}
-use Rattle.service.specs.Served.{printedIn, ServedText, shown, Shown, TextOnly}
+use Rattle.service.specs.Served.{AnsweredJob, printedIn, ServedText, shown, Shown, TextOnly}
 
 module _ (lent : Lent) (job : Bytes) where
   pub text-is : textOf job (resultAfter lent job) (answer lent job) ≡ printed lent job
@@ -63,29 +62,28 @@ module _ (lent : Lent) (job : Bytes) where
   unfolding printedAs
   printed-as n = rw (never-block, text-is)
 
+-- What is said of the text of such an answer, and the text.
+module _ (lent : Lent) (job : Bytes) {r : Answer} {result : Bytes} (said : r ≡ answer lent job) (is : result ≡ resultAfter lent job)
+    {n : ℕ} {out : Bytes} {p : Printed} (t : TextLeft job result r n out p) where
+  pub text-said : p ≡ printedIn n (printed lent job)
+  text-said = t .answered ∙ rw (said, is) (printed-as lent job n)
+
+  pub text-left : out ≡ padded n (printedBytes p (printed lent job))
+  text-left =
+      t .left ∙ ap₂ (λ (q : Printed) (xs : Bytes). padded n (printedBytes q xs)) (sym (t .answered)) (rw (said, is) (text-is lent job))
+
 -- The call, and the text of what it leaves.
 pub served-text : {job result states out result′ states′ out′ : Bytes} {distances distances′ : List ℕ} {links links′ : List Link} {r : Answer} {p : Printed} →
     Called job result states distances links r result′ states′ distances′ links′ → TextLeft job result′ r (length out) out′ p →
     ServedText job result states distances links out p result′ states′ distances′ links′ out′
-served-text {job} {result} {states} {out} {result′} {distances} {links} {r} c t =
+served-text {job} {result} {states} {distances = distances} {links = links} c t =
     let lent = lentBy result states distances links in
     let s = c .served in
-    let said : printedAs (length out) job result′ r ≡ printedIn (length out) (printed lent job) = rw (s .result-left, s .answered) (printed-as lent job (length out)) in
-    let is : textOf job result′ r ≡ printed lent job = rw (s .result-left, s .answered) (text-is lent job) in
     record {
       called = rw (s .answered) at c;
-      answered = t .answered ∙ said;
-      left = t .left ∙ ap₂ (λ (q : Printed) (xs : Bytes). padded (length out) (printedBytes q xs)) (sym (t .answered)) is;
+      answered = text-said lent job (s .answered) (s .result-left) t;
+      left = text-left lent job (s .answered) (s .result-left) t;
     }
-
--- Memory of the least lengths.
-pub least-lent : lentBy (replicate 57680 0) (replicate 8192 0) (replicate 16384 0) (replicate 8128 noLink) ≡ least
-least-lent i = record {
-  result = length-replicate {A = ℕ} 57680 0 i;
-  states = length-replicate {A = ℕ} 8192 0 i;
-  distances = length-replicate {A = ℕ} 16384 0 i;
-  links = length-replicate 8128 noLink i;
-}
 
 -- The text, by its length.
 shown-used : (lent : ℕ) (xs : Bytes) → printedUsed (printedIn lent xs) ≡ length (shown lent xs)
@@ -110,7 +108,10 @@ shown-as {xs} {out} {out′} {used} said written u =
     let all : out′ ≡ padded (length out) text = written ∙ ap (padded (length out)) (ap (λ q. printedBytes q xs) said ∙ shown-bytes (length out) xs) in
     record { used-is = is; left = all; within = rw all (simp length-append (omega (arith, is))) }
 
-pub least-text : {job result states out result′ states′ out′ : Bytes} {distances distances′ : List ℕ} {links links′ : List Link} {r : Printed} {used : ℕ} →
-    ServedText job result states distances links out r result′ states′ distances′ links′ out′ → lentBy result states distances links ≡ least →
-    used ≡ printedUsed r → TextOnly job out used out′
-least-text s e u = shown-as (rw e at (s .answered)) (rw e at (s .left)) u
+-- The text of such an answer, over a result of the least length.
+pub least-text : {job result out result′ out′ : Bytes} {r : Answer} {p : Printed} {used : ℕ} →
+    AnsweredJob job result r result′ → length result ≡ 57680 → TextLeft job result′ r (length out) out′ p → used ≡ printedUsed p → TextOnly job out used out′
+least-text {job} {result} {r = r} a e t u =
+    let said : r ≡ answer least job = rw e at (a .answered) in
+    let is = rw e at (a .left) in
+    shown-as (text-said least job said is t) (text-left least job said is t) u

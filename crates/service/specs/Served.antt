@@ -1,4 +1,4 @@
--- A job is served and printed: the call's own promise, and the text that document 01 prints.
+-- A job is answered, or served and printed: the call's own promise, and the text that document 01 prints.
 use mathlib.Core.Path.{_≡_}
 use mathlib.Core.Bool.{cond}
 use mathlib.Core.List.{List, []}
@@ -6,14 +6,24 @@ use Prim.Native.Nat.{ℕ, _≤_}
 use lib.Dec.{ltb}
 use lib.ListN.{length}
 use Rattle.rules.specs.Job.{Bytes}
-use Rattle.rules.specs.Lent.{least}
-use Rattle.rules.specs.Call.{answer, padded}
+use Rattle.rules.specs.Lent.{Lent, least}
+use Rattle.rules.specs.Call.{answer, padded, resultAfter}
 use Rattle.rules.specs.Text.{printed}
+use Rattle.rules.specs.declared.Answer.{Answer}
 use Rattle.rules.specs.declared.Link.{Link}
 use Rattle.text.specs.Printed.{textRoom, printedBytes}
 use Rattle.text.specs.declared.Printed.{Printed}
 use Rattle.text.specs.declared.Printed.the-variants.{Done, Room}
 use Rattle.network.specs.Called.{lentBy, Called}
+
+-- A result of so many bytes, and of all else the least that may be lent.
+abbrev pub leastBeside : ℕ → Lent
+leastBeside n = record { result = n; states = 8192; distances = 16384; links = 8128 }
+
+-- The answer, and what is left in the result.
+pub record AnsweredJob (job result : Bytes) (r : Answer) (result′ : Bytes) : Type 0 where
+  pub answered : r ≡ answer (leastBeside (length result)) job
+  pub left : result′ ≡ resultAfter (leastBeside (length result)) job
 
 -- A text in memory of some length: there is room for every text, or nothing is written.
 abbrev pub printedIn : ℕ → Bytes → Printed

@@ -2,7 +2,7 @@
 // and writing.
 
 ghost use Rattle.network.specs.Called.{Called};
-ghost use Rattle.service.specs.Served.{ServedText, TextOnly};
+ghost use Rattle.service.specs.Served.{AnsweredJob, ServedText, TextOnly};
 use network::call;
 use rules::Answer;
 use rules::Link;
@@ -46,21 +46,29 @@ pub fn call_with(
     Owned { answer, table }
 }
 
-// A job served over memory of this function's own, of the least lengths that document 01 asks for. What is handed back is the text's length.
+// The call over work memory of this function's own, of the least lengths that document 01 asks for. The call clears it, whatever it holds:
+// so it holds numbers whose two bytes differ, which a compiler fills in by wide steps and not byte by byte.
+pub fn answer_job(job: &[u8], result: &mut [u8]) -> Answer
+    ensures { λ r. ⌜ AnsweredJob (now (job .entry)) (now (result .entry)) r (now (result .exit)) ⌝ }
+{
+    let mut states = [0u8; 8192];
+    let mut distances = [256u16; 16384];
+    let some = Link {
+        low: 256,
+        high: 256,
+        length: 256,
+    };
+    let table = [some; 8128];
+    let owned = call_with(job, result, &mut states, &mut distances, table);
+    owned.answer
+}
+
+// A job served over memory of this function's own, of the least lengths too. What is handed back is the text's length.
 pub fn answer_text(job: &[u8], out: &mut [u8]) -> usize
     ensures { λ r. ⌜ TextOnly (now (job .entry)) (now (out .entry)) r (now (out .exit)) ⌝ }
 {
     let mut result = [0u8; 57680];
-    let mut states = [0u8; 8192];
-    let mut distances = [0u16; 16384];
-    let none = Link {
-        low: 0,
-        high: 0,
-        length: 0,
-    };
-    let table = [none; 8128];
-    let owned = call_with(job, &mut result, &mut states, &mut distances, table);
-    let answer = owned.answer;
+    let answer = answer_job(job, &mut result);
     let printed = text(job, &result, answer, out);
     let told = tell_text(printed);
     told.used

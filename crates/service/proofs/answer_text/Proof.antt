@@ -1,20 +1,16 @@
--- `service::answer_text` meets its contract: its own memory has the least lengths.
+-- `service::answer_text` meets its contract: its result has the least length.
 use borrow.Author.Needs.{needs}
-use Rattle.service.proofs.Text.{served-text, least-lent, least-text}
+use Prim.Native.Nat.{ℕ}
+use lib.ListN.{length-replicate}
+use Rattle.service.proofs.Text.{least-text}
 use Rattle.service.proofs.answer_text.Statement.{statement}
 use Rattle.service.proofs.answer_text.Tie as tie
 
-slice-aggregate-call-with : tie.Need-slice-aggregate-call-with
-slice-aggregate-call-with c = search needs
+slice-aggregate-answer-job : tie.Need-slice-aggregate-answer-job
+slice-aggregate-answer-job c = search needs
 
-slice-aggregate-call-with-2 : tie.Need-slice-aggregate-call-with-2
-slice-aggregate-call-with-2 c = search needs
-
-slice-aggregate-call-with-3 : tie.Need-slice-aggregate-call-with-3
-slice-aggregate-call-with-3 c = search needs
-
-call-with-requires : tie.Need-call-with-requires
-call-with-requires c κs = search needs
+answer-job-requires : tie.Need-answer-job-requires
+answer-job-requires c κs = search needs
 
 slice-aggregate-text : tie.Need-slice-aggregate-text
 slice-aggregate-text c = search needs
@@ -28,24 +24,17 @@ tell-text-requires c κs = search needs
 same-length : tie.Need-same-length
 same-length c = search needs
 
--- what was known after each of the two calls
-abbrev printed : tie.After-tell-text → tie.After-text
-printed c = c .before .before .before
-
-abbrev called : tie.After-text → tie.After-call-with
-called c = c .before .before .before .before .before .before
-
 returns : tie.Need-returns
-returns c = least-text (served-text (called (printed c) .call-with .ensures) (printed c .text .ensures)) least-lent (c .tell-text .ensures .used-is)
+returns c =
+    let printed = c .before .before .before in
+    least-text (printed .before .before .before .before .answer-job .ensures) (length-replicate {A = ℕ} 57680 0) (printed .text .ensures) (c .tell-text .ensures .used-is)
 
 pub answer-text-spec : {M : Type 1} → statement M
 answer-text-spec =
     tie.close
     (tie.spec
-    slice-aggregate-call-with
-    slice-aggregate-call-with-2
-    slice-aggregate-call-with-3
-    call-with-requires
+    slice-aggregate-answer-job
+    answer-job-requires
     slice-aggregate-text
     text-requires
     tell-text-requires
