@@ -30,10 +30,11 @@ use Rattle.found.proofs.Found as network
 use Rattle.found.proofs.Result as result
 use Rattle.answers.specs.Told.{Tells}
 use Rattle.answers.specs.declared.Told.{Told}
-use Rattle.text.specs.Printed.{ToldText, textOf, printedBytes, RefusalLeft, TextLeft}
+use Rattle.text.specs.Printed.{ToldText, textRoom, textOf, printedBytes, RefusalLeft, TextLeft, BriefLeft}
 use Rattle.text.specs.declared.Printed.{Printed}
+use Rattle.text.specs.declared.Printed.the-variants.{Done, Room}
 use Rattle.text.proofs.Once as text
-use Rattle.service.specs.Served.{printedIn, Shown}
+use Rattle.service.specs.Served.{AnsweredJob, printedIn, Shown}
 use Rattle.service.proofs.Text as service
 use Rattle.lookup.specs.Places.{Points}
 use Rattle.lookup.specs.declared.Place.{Place}
@@ -140,7 +141,7 @@ module _ (job block : Bytes) (k : ℕ) where
   pub same-states : (xs ys : Bytes) → xs ≡ lookup job block k → ys ≡ lookup job block k → xs ≡ ys
   same-states xs ys e f = e ∙ sym f
 
--- ── The text (`TextLeft`, the contract of `text`; `RefusalLeft`, that of `refusal_text`) ──
+-- ── The text (`TextLeft`, the contract of `text`; `RefusalLeft`, that of `refusal_text`; `BriefLeft`, that of `brief`) ──
 
 -- The contracts leave no choice.
 pub same-text : (job block : Bytes) (a : Answer) (lent : ℕ) (out out′ : Bytes) (r r′ : Printed) →
@@ -151,11 +152,27 @@ pub same-refusal-text : (n at lent : ℕ) (out out′ : Bytes) (r r′ : Printed
     (out ≡ out′) × (r ≡ r′)
 same-refusal-text n at lent out out′ r r′ p q = (p .left ∙ sym (q .left), p .answered ∙ sym (q .answered))
 
+pub same-brief : (job block : Bytes) (a : Answer) (lent : ℕ) (out out′ : Bytes) (r r′ : Printed) →
+    BriefLeft job block a lent out r → BriefLeft job block a lent out′ r′ → (out ≡ out′) × (r ≡ r′)
+same-brief job block a lent out out′ r r′ p q = text.brief-one p q
+
 -- The text of what a call leaves is the text that document 01 prints.
 pub printed-text : (lent : Lent) (job : Bytes) → textOf job (resultAfter lent job) (answer lent job) ≡ printed lent job
 printed-text = service.text-is
 
--- ── The service, texts alone (`TextOnly`, `FastaText`) and what is told of an answer (`ToldOf`, `ToldText`, `ToldMade`): no choice is left ──
+-- So it is in little memory: all of it or, where it lacks room, nothing. It never lacks room where there is room for every text.
+module _ (lent : Lent) (job : Bytes) (n : ℕ) (out : Bytes) (r : Printed) (brief : BriefLeft job (resultAfter lent job) (answer lent job) n out r) where
+  pub brief-whole : r ≢ Room → (r ≡ Done (length (printed lent job))) × (out ≡ padded n (printed lent job))
+  brief-whole = service.brief-whole lent job brief
+
+  pub brief-roomy : textRoom ≤ n → r ≢ Room
+  brief-roomy = service.brief-roomy lent job brief
+
+-- ── The service (`AnsweredJob`, `ServedText`), texts alone (`TextOnly`, `FastaText`) and what is told of an answer (`ToldOf`, `ToldText`, `ToldMade`): no choice is left ──
+
+pub same-answered : (job result result₁ result₂ : Bytes) (r r′ : Answer) → AnsweredJob job result r result₁ → AnsweredJob job result r′ result₂ →
+    (r ≡ r′) × (result₁ ≡ result₂)
+same-answered job result result₁ result₂ r r′ a b = (a .answered ∙ sym (b .answered), a .left ∙ sym (b .left))
 
 pub same-served : (job : Bytes) (before after after′ : Memory) (out out₁ out₂ : Bytes) (r r′ : Printed) → Serves job before out r after out₁ →
     Serves job before out r′ after′ out₂ → (r ≡ r′) × (after ≡ after′) × (out₁ ≡ out₂)

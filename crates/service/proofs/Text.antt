@@ -1,12 +1,13 @@
 -- The text of what the call leaves is the text of the rules, and the block that it leaves can always be printed.
 use mathlib.Core.Path.{_≡_, refl, sym, ap, ap₂, _∙_}
+use mathlib.Core.Logic.{_≢_}
 use mathlib.Core.Bool.{Bool, true, false, cond, not, _&&_}
 use mathlib.Core.List.{List, []}
 use Prim.Native.Nat.{ℕ, _+_, _*_, _≤_}
 use native.Mathlib.Omega.{arith}
 use lib.Dec.{ltb, eqb}
 use lib.ListN.{length, length-append}
-use borrow.Author.Tests.{eq-eqb, ne-eqb, le-leb}
+use borrow.Author.Tests.{le-ltb, eq-eqb, ne-eqb, le-leb}
 use Rattle.rules.specs.Answers.{number}
 use Rattle.rules.specs.Job.{Bytes, word, checked}
 use Rattle.rules.specs.Lent.{Lent, least}
@@ -15,12 +16,13 @@ use Rattle.rules.specs.Call.{Verdict, refused, found, verdict, answer, padded, 
 use Rattle.rules.specs.Text.{printed}
 use Rattle.rules.specs.declared.Answer.{Answer}
 use Rattle.rules.specs.declared.Link.{Link}
-use Rattle.found.proofs.Found.{found-is, verdict-numbered}
+use Rattle.found.proofs.Found.{answered, found-is, verdict-numbered}
 use Rattle.found.proofs.Result.{few-links, read-result, header-matches, links-counted, links-reach}
 use Rattle.listing.specs.Lines.{legible}
-use Rattle.text.specs.Printed.{printedUsed, textRoom, textOf, printedAs, printedBytes, TextLeft}
+use Rattle.text.specs.Printed.{printedUsed, textRoom, textOf, briefRoom, printedAs, printedBytes, TextLeft, briefAs, BriefLeft}
 use Rattle.text.specs.declared.Printed.{Printed}
 use Rattle.text.specs.declared.Printed.the-variants.{Done, Room}
+use Rattle.text.proofs.Room.{every-suffices}
 use Rattle.network.specs.Called.{lentBy, Called}
 use Rattle.service.specs.Served.{AnsweredJob, printedIn, ServedText, shown, Shown, TextOnly}
 
@@ -61,6 +63,35 @@ module _ (lent : Lent) (job : Bytes) where
   pub printed-as : (n : ℕ) → printedAs n job (resultAfter lent job) (answer lent job) ≡ printedIn n (printed lent job)
   unfolding printedAs
   printed-as n = rw (never-block, text-is)
+
+  -- ── The same in little memory ──
+
+  abbrev room : ℕ
+  room = briefRoom (resultAfter lent job) (answer lent job)
+
+  abbrev Brief : ℕ → Bytes → Printed → Type 0
+  Brief n out r = BriefLeft job (resultAfter lent job) (answer lent job) n out r
+
+  brief-as : (n : ℕ) → briefAs n job (resultAfter lent job) (answer lent job) ≡ cond (ltb n room) Room (Done (length (printed lent job)))
+  unfolding briefAs
+  brief-as n = rw (never-block, text-is)
+
+  -- Where there is no lack of room, all of the text is printed.
+  pub brief-whole : {n : ℕ} {out : Bytes} {r : Printed} → Brief n out r → r ≢ Room →
+      (r ≡ Done (length (printed lent job))) × (out ≡ padded n (printed lent job))
+  brief-whole {n} {out} {r} b f = go (ltb n room) refl
+    where
+      go : (t : Bool) → ltb n room ≡ t → (r ≡ Done (length (printed lent job))) × (out ≡ padded n (printed lent job))
+      go true e = absurd (f (b .answered ∙ brief-as n ∙ rw e))
+      go false e = (b .answered ∙ brief-as n ∙ rw e, b .left ∙ rw (brief-as n, e, text-is))
+
+  -- There is none where there is room for every text.
+  pub brief-roomy : {n : ℕ} {out : Bytes} {r : Printed} → Brief n out r → textRoom ≤ n → r ≢ Room
+  brief-roomy {n} {r = r} b h e =
+      let l : number (answer lent job) ≡ 0 → legible job (resultAfter lent job) ≡ true = (λ z. let (net, is) = answered lent job .0 z in legible-block net is) in
+      let done : r ≡ Done (length (printed lent job)) =
+      b .answered ∙ brief-as n ∙ rw (le-ltb n room (omega (arith, every-suffices job (resultAfter lent job) (answer lent job) l))) in
+      let z : _≡_ {A = ℕ} 0 1 = cc in omega arith
 
 -- What is said of the text of such an answer, and the text.
 module _ (lent : Lent) (job : Bytes) {r : Answer} {result : Bytes} (said : r ≡ answer lent job) (is : result ≡ resultAfter lent job)
