@@ -1,57 +1,45 @@
 -- Laws of Marks.antt: what marks are made of, in which order they are written, and that two who find the links leave the same.
 use mathlib.Core.Path.{_≡_, refl, sym, _∙_}
-use mathlib.Core.Logic.{_↔_, _⊎_, inl, inr, ⊎-elim, Iff·trans, Dec·and}
+use mathlib.Core.Logic.{_↔_, _≢_, Iff·trans, Dec·and}
 use mathlib.Core.Bool.{Bool, true, false, cond, false≢true}
 use mathlib.Core.List.{List}
 use Prim.Native.Nat.{ℕ, _+_, _*_, _≤_, _<_, min, max}
-use native.Mathlib.Decide.{ℕ-discrete, decLt}
 use native.Mathlib.Omega.{arith}
-use lib.ListN.{length, set}
-use borrow.Author.Tests.{le-leb, lt-leb}
+use native.Mathlib.Decide.{ℕ-discrete, decLt}
+use lib.Dec.{eqb}
+use lib.ListN.{length, getD, set}
+use borrow.Author.Tests.{eq-eqb, ne-eqb}
 use Rattle.graph.specs.Spans.{spans, feasible}
+use Rattle.graph.proofs.Below.{sum-more}
 use Rattle.graph.proofs.Feasibility.{feasible-back}
 use Rattle.graph.proofs.Spans.{feasible-is}
 use Rattle.distances.specs.Area.{cellAt, Written, Line}
 use Rattle.distances.proofs.Area.{Asked, Narrow, cell-kept, line-more, written-as, written-both, written-more, written-once}
-use Rattle.spans.specs.Tree.{between, Mirror, spanOf}
+use Rattle.spans.specs.Tree.{between, mirrored, Mirror, opposite, Spanned}
+use Rattle.spans.proofs.Turns.{mirror-more}
 use Rattle.spans.proofs.Growing.{between-sym}
-use Rattle.links.specs.Marks.{mark, LinksFound}
+use Rattle.links.specs.Marks.{markCount, mark, LinksFound}
 
--- The mirror cells of one type more.
-mirror-more : (n a b : ℕ) → (Mirror n a b ⊎ Line n n a b) ↔ Mirror (n + 1) a b
-mirror-more n a b = (
-  ⊎-elim (λ t. (t .0, omega arith)) (λ t. (omega arith, omega arith)),
-  λ t. elim (decLt a n) [ yes l ↦ inl (t .0, l) | no other ↦ inr (omega arith, omega arith) ],
-)
-
--- A mark is 1 where the distance is at most the span plus epsilon, and else 0.
-module _ (e : ℕ) (area : List ℕ) (i j : ℕ) where
-  pub mark-one : cellAt area j i ≤ cellAt area i j + e → mark e area i j ≡ 1
-  mark-one h = rw (le-leb (cellAt area j i) (cellAt area i j + e) h)
-
-  pub mark-zero : cellAt area i j + e < cellAt area j i → mark e area i j ≡ 0
-  mark-zero h = rw (lt-leb (cellAt area j i) (cellAt area i j + e) h)
-
--- It is the mark it was while neither cell was written.
-mark-kept : {asked : Asked} {f : ℕ → ℕ → ℕ} {before after : List ℕ} → Written asked f before after → Narrow asked → (e i j : ℕ) →
-    i < 128 → j < 128 → ¬ asked i j → ¬ asked j i → mark e after i j ≡ mark e before i j
-mark-kept w narrow e i j hi hj n m = rw (cell-kept w narrow i j hj n, cell-kept w narrow j i hi m)
+-- It is the mark it was while the cell was not written.
+mark-kept : {asked : Asked} {f : ℕ → ℕ → ℕ} {before after : List ℕ} → Written asked f before after → Narrow asked → (e : ℕ)
+    (spans : List ℕ) (i j : ℕ) → j < 128 → ¬ asked i j → mark e spans after i j ≡ mark e spans before i j
+mark-kept w narrow e spans i j h n = rw (cell-kept w narrow i j h n)
 
 -- One cell more of a line.
-pub cell-marked : (e i j v : ℕ) (before : List ℕ) {area : List ℕ} → i < j → j < 128 → 16384 ≤ length before →
-    Written (Line j i) (mark e before) before area → mark e area j i ≡ v →
-    Written (Line j (i + 1)) (mark e before) before (set area (128 * j + i) v)
-cell-marked e i j v before h l room w m =
-    let kept = mark-kept w (λ a b t. omega arith) e j i (omega arith) (omega arith) (λ t. omega arith) (λ t. omega arith) in
-    written-more w (λ a b t. omega arith) j i v (line-more j i) (omega arith) (sym m ∙ kept)
+pub cell-marked : (e i j v : ℕ) (spans before : List ℕ) {area : List ℕ} → i < j → j < 128 → 16384 ≤ length before →
+    Written (Line j i) (mark e spans before) before area → v ≡ mark e spans area j i →
+    Written (Line j (i + 1)) (mark e spans before) before (set area (128 * j + i) v)
+cell-marked e i j v spans before h l room w m =
+    let kept = mark-kept w (λ a b t. omega arith) e spans j i (omega arith) (λ t. omega arith) in
+    written-more w (λ a b t. omega arith) j i v (line-more j i) (omega arith) (m ∙ kept)
 
 -- One line more.
-pub line-marked : (e j : ℕ) (before : List ℕ) {mid after : List ℕ} → j < 128 → Written (Mirror j) (mark e before) before mid →
-    Written (Line j j) (mark e mid) mid after → Written (Mirror (j + 1)) (mark e before) before after
-line-marked e j before h w x =
+pub line-marked : (e j : ℕ) (spans before : List ℕ) {mid after : List ℕ} → j < 128 →
+    Written (Mirror j) (mark e spans before) before mid → Written (Line j j) (mark e spans mid) mid after →
+    Written (Mirror (j + 1)) (mark e spans before) before after
+line-marked e j spans before h w x =
     let narrow : Narrow (Mirror j) = λ a b t. omega arith in
-    let line = written-as x (λ a b. (λ t. t, λ t. t))
-    (λ a b t. mark-kept w narrow e a b (omega arith) (omega arith) (λ u. omega arith) (λ u. omega arith)) in
+    let line = written-as x (λ a b. (λ t. t, λ t. t)) (λ a b t. mark-kept w narrow e spans a b (omega arith) (λ u. omega arith)) in
     written-as (written-both w line narrow (λ a b t. omega arith) (λ a b t. no (λ u. omega arith))) (mirror-more j) (λ a b t. refl)
 
 -- A mark tells a test: it is 1 exactly where the test passes, and never more.
@@ -59,17 +47,16 @@ tells : (t : Bool) {v : ℕ} → v ≡ cond t 1 0 → ((v ≡ 1) ↔ (t ≡ true
 tells true e = ((λ u. refl, λ u. e), omega arith)
 tells false e = ((λ u. absurd (omega arith), λ u. absurd (false≢true u)), omega arith)
 
--- The links are found by first writing the spans and then the marks, since those tell the test of each link.
-module _ (n e : ℕ) (before : List ℕ) {mid after : List ℕ} (h : n ≤ 128)
-    (w : Written (Mirror n) (spanOf n before) before mid) (x : Written (Mirror n) (mark e mid) mid after) where
+-- The links are found by writing the distances and then the marks to the mirror cells, since those tell the test of each link.
+module _ (n e : ℕ) (before : List ℕ) {start spans′ mid after : List ℕ} (h : n ≤ 128) (w : Written (Mirror n) (opposite before) before mid)
+    (s : Spanned n before start spans′) (x : Written (Mirror n) (mark e spans′ mid) mid after) where
   tested : (i j : ℕ) → i < j → j < n →
       ((cellAt after j i ≡ 1) ↔ (feasible (between before) (spans n (between before)) e j i ≡ true)) × (cellAt after j i ≤ 1)
   tested i j l r =
       let low : min j i ≡ i = omega arith in
       let high : max j i ≡ j = omega arith in
-      let distance = cell-kept w (λ a b t. omega arith) i j (omega arith) (λ t. omega arith) in
       tells (feasible (between before) (spans n (between before)) e j i)
-      (x .holds j i (l, r) ∙ rw (distance, w .holds j i (l, r), low, high))
+      (x .holds j i (l, r) ∙ rw (w .holds j i (l, r), s .holds j i r (omega arith) (λ t. omega arith), low, high))
 
   pub found : LinksFound n e before after
   found = record {
@@ -103,3 +90,11 @@ module _ {n e : ℕ} {before : List ℕ} where
 
   pub found-once : {a b : List ℕ} → n ≤ 128 → LinksFound n e before a → LinksFound n e before b → a ≡ b
   found-once h p q = written-once (λ i j t. omega arith) (λ i j. Dec·and (decLt j i) (decLt i n)) (found-written p q) (found-written q q)
+
+-- The count of links with one type more: it is one more where that is marked, and type i itself is none.
+module _ (area : List ℕ) (i : ℕ) where
+  pub count-more : (j : ℕ) → i ≢ j → markCount area (j + 1) i ≡ markCount area j i + cond (eqb (getD area (mirrored i j) 0) 1) 1 0
+  count-more j ne = sum-more j _ ∙ rw (ne-eqb i j ne)
+
+  pub count-self : markCount area (i + 1) i ≡ markCount area i i
+  count-self = sum-more i _ ∙ rw (eq-eqb i i refl) (omega arith)

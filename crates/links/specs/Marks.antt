@@ -20,9 +20,12 @@ marked area i j = not (eqb i j) && eqb (getD area (mirrored i j) 0) 1
 abbrev pub markCount : List ℕ → ℕ → ℕ → ℕ
 markCount area n i = count n (marked area i)
 
--- The mark of a pair by its distance and the span in its mirror cell.
-abbrev pub mark : ℕ → List ℕ → ℕ → ℕ → ℕ
-mark e area i j = cond (leb (cellAt area j i) (cellAt area i j + e)) 1 0
+-- The mark of a pair by its distance and its span.
+abbrev pub markOf : ℕ → ℕ → ℕ → ℕ
+markOf e distance span = cond (leb distance (span + e)) 1 0
+
+abbrev pub mark : ℕ → List ℕ → List ℕ → ℕ → ℕ → ℕ
+mark e spans area i j = markOf e (cellAt area i j) (cellAt spans i j)
 
 -- The links of n types at epsilon are found: a pair is marked exactly if no chain of types leads from one to the other with every
 -- step's distance plus epsilon below the pair's. Every cell but the mirror cells of the n types is as it was.

@@ -2,51 +2,62 @@
 // and writes its mirror cells: 1 if the two types are linked, and else 0.
 
 ghost use mathlib.Core.Path.{_≡_};
+ghost use mathlib.Core.Bool.{cond};
 ghost use Prim.Native.Nat.{_≤_, _<_};
+ghost use lib.Dec.{eqb};
 ghost use lib.ListN.{length};
 ghost use Rattle.distances.specs.Area.{Written, Line};
 ghost use Rattle.spans.specs.Tree.{Mirror};
-ghost use Rattle.links.specs.Marks.{marked, markCount, mark, LinksFound};
+ghost use Rattle.links.specs.Marks.{marked, markCount, markOf, mark, LinksFound};
 use spans::mirrored;
 use spans::spans;
 
-// The marks of type j and the types before it.
-fn mark_line(area: &mut [u16], epsilon: usize, j: usize)
-    requires { ⌜ (epsilon ≤ 65535) × (j < 128) × (16384 ≤ length (now area)) ⌝ }
-    ensures { λ _. ⌜ Written (Line j j) (mark epsilon (now (area .entry))) (now (area .entry)) (now (area .exit)) ⌝ }
+// The mark of two types: 1 if their distance is at most their span and epsilon together, and else 0. No sum is taken: it may be
+// more than 16 bits hold.
+fn mark_of(distance: u16, span: u16, epsilon: u16) -> u16
+    ensures { λ r. ⌜ r ≡ markOf epsilon distance span ⌝ }
 {
+    let need = if epsilon < distance {
+        distance - epsilon
+    } else {
+        0
+    };
+    if need <= span { 1 } else { 0 }
+}
+
+// The marks of type j and the types before it.
+fn mark_line(area: &mut [u16], spans: &[u16], epsilon: u16, j: usize)
+    requires { ⌜ (j < 128) × (16384 ≤ length (now area)) × (16384 ≤ length (now spans)) ⌝ }
+    ensures { λ _. ⌜ Written (Line j j) (mark epsilon (now (spans .entry)) (now (area .entry))) (now (area .entry)) (now (area .exit)) ⌝ }
+{
+    let from = 128 * j;
     let mut i = 0;
     while i < j {
-        let distance = area[128 * i + j] as usize;
-        let span = area[128 * j + i] as usize;
-        if distance <= span + epsilon {
-            area[128 * j + i] = 1;
-        } else {
-            area[128 * j + i] = 0;
-        }
+        area[from + i] = mark_of(area[from + i], spans[from + i], epsilon);
         i += 1;
     }
 }
 
-// The marks of n types whose mirror cells hold their spans.
-fn mark(area: &mut [u16], n: usize, epsilon: usize)
-    requires { ⌜ (epsilon ≤ 65535) × (n ≤ 128) × (16384 ≤ length (now area)) ⌝ }
-    ensures { λ _. ⌜ Written (Mirror n) (mark epsilon (now (area .entry))) (now (area .entry)) (now (area .exit)) ⌝ }
+// The marks of n types whose mirror cells hold their distances.
+fn mark(area: &mut [u16], spans: &[u16], n: usize, epsilon: u16)
+    requires { ⌜ (n ≤ 128) × (16384 ≤ length (now area)) × (16384 ≤ length (now spans)) ⌝ }
+    ensures { λ _. ⌜ Written (Mirror n) (mark epsilon (now (spans .entry)) (now (area .entry))) (now (area .entry)) (now (area .exit)) ⌝ }
 {
     let mut j = 0;
     while j < n {
-        mark_line(area, epsilon, j);
+        mark_line(area, spans, epsilon, j);
         j += 1;
     }
 }
 
-// The links of n types at epsilon.
+// The links of n types at epsilon. What the spans' area holds at first does not matter.
 pub fn find_links(area: &mut [u16], n: usize, epsilon: usize)
     requires { ⌜ (epsilon ≤ 65535) × (n ≤ 128) × (16384 ≤ length (now area)) ⌝ }
     ensures { λ _. ⌜ LinksFound n epsilon (now (area .entry)) (now (area .exit)) ⌝ }
 {
-    spans(area, n);
-    mark(area, n, epsilon);
+    let mut all = [256u16; 16384];
+    spans(area, &mut all, n);
+    mark(area, &all, n, epsilon as u16);
 }
 
 // Whether two types are linked.
@@ -57,18 +68,39 @@ pub fn linked(area: &[u16], i: usize, j: usize) -> bool
     i != j && area[mirrored(i, j)] == 1
 }
 
-// How many of n types are linked with type i.
+// A mark counts 1 if it says linked, and else 0.
+fn one(mark: u16) -> u16
+    ensures { λ r. ⌜ r ≡ cond (eqb mark 1) 1 0 ⌝ }
+{
+    if mark == 1 { 1 } else { 0 }
+}
+
+// How many of the first n types are linked with type i, none of which is behind it: their marks stand in its line.
+fn links_before(area: &[u16], n: usize, i: usize) -> u16
+    requires { ⌜ (n ≤ i) × (i < 128) × (16384 ≤ length (now area)) ⌝ }
+    ensures { λ r. ⌜ r ≡ markCount (now (area .entry)) n i ⌝ }
+{
+    let from = 128 * i;
+    let mut links = 0;
+    let mut j = 0;
+    while j < n {
+        links += one(area[from + j]);
+        j += 1;
+    }
+    links
+}
+
+// How many of n types are linked with type i. The marks of the types behind it stand in its column.
 pub fn link_count(area: &[u16], n: usize, i: usize) -> usize
     requires { ⌜ (n ≤ 128) × (i < 128) × (16384 ≤ length (now area)) ⌝ }
     ensures { λ r. ⌜ r ≡ markCount (now (area .entry)) n i ⌝ }
 {
-    let mut links = 0;
-    let mut j = 0;
+    let before = if i < n { i } else { n };
+    let mut links = links_before(area, before, i);
+    let mut j = i + 1;
     while j < n {
-        if linked(area, i, j) {
-            links += 1;
-        }
+        links += one(area[128 * j + i]);
         j += 1;
     }
-    links
+    links as usize
 }

@@ -1,3 +1,5 @@
-pub mod Order
 pub mod Turns
+pub mod Stretch
 pub mod Growing
+pub mod Lines
+pub mod Grown

@@ -1,13 +1,14 @@
 // The room of spans: for every two types the longest step of a chain between them, in the chain where that is least. A cheapest
-// tree grows over the types, nearest type first (Prim's order), and the span of two types is the longest step of the tree between
-// them. It reads the distances of the distance area and writes its mirror cells.
+// tree grows over the types, nearest type first (Prim's order), and the span of two types is the longest of the steps by which
+// the types behind the earlier one joined, up to the later one's. It reads the distances of the distance area and copies them to
+// its mirror cells, so that a type's line holds all its distances. The spans are written to a lent area of their own.
 
 ghost use mathlib.Core.Path.{_≡_};
-ghost use Prim.Native.Nat.{ℕ, _≤_, _<_};
+ghost use Prim.Native.Nat.{ℕ, _+_, _≤_, _<_, min, max};
 ghost use lib.ListN.{length, getD};
-ghost use mathlib.Core.Logic.{_≢_};
-ghost use Rattle.distances.specs.Area.{Written};
-ghost use Rattle.spans.specs.Tree.{between, mirrored, Mirror, spanOf, Ordered, Others, Joined, Nearest, Approached};
+ghost use Rattle.distances.specs.Area.{cellAt, Written, Line};
+ghost use Rattle.spans.specs.Tree.{between, mirrored, Mirror, opposite, Spanned};
+ghost use Rattle.spans.specs.Growth.{Part, Full, Filled, nearer, Least, Placed, Found, Lined, Grown, Settled};
 
 // The distance of two types.
 pub fn between(area: &[u16], i: usize, j: usize) -> u16
@@ -29,95 +30,202 @@ pub fn mirrored(i: usize, j: usize) -> usize
     if i < j { 128 * j + i } else { 128 * i + j }
 }
 
-// The types in their order.
-fn in_order(n: usize) -> [usize; 128]
+fn lesser(a: u16, b: u16) -> u16
+    ensures { λ r. ⌜ r ≡ min a b ⌝ }
+{
+    if a < b { a } else { b }
+}
+
+fn longer(a: u16, b: u16) -> u16
+    ensures { λ r. ⌜ r ≡ max a b ⌝ }
+{
+    if a < b { b } else { a }
+}
+
+// Loops over types run to a multiple of 16, in whole vectors.
+fn lanes(n: usize) -> usize
     requires { ⌜ n ≤ 128 ⌝ }
-    ensures { λ r. ⌜ (length r ≡ 128) × ((k : ℕ) → k < n → getD r k 0 ≡ k) ⌝ }
+    ensures { λ r. ⌜ (n ≤ r) × (r ≤ 128) ⌝ }
 {
-    let mut order = [0usize; 128];
-    let mut k = 0;
-    while k < n {
-        order[k] = k;
-        k += 1;
-    }
-    order
+    16 * ((n + 15) / 16)
 }
 
-// Type v joins the tree by its nearest type p there: the spans of v and the types of the tree.
-fn join(area: &mut [u16], order: &[usize], size: usize, v: usize, p: usize)
-    requires { ⌜ (v < 128) × (p < 128) × (p ≢ v) × (size ≤ 128) × (length (now order) ≡ 128) × Others (now order) size v
-        × (16384 ≤ length (now area)) ⌝ }
-    ensures { λ _. ⌜ Joined (now (order .entry)) size v p (now (area .entry)) (now (area .exit)) ⌝ }
+// The mirror cells of type j with the types from `from` to `to`.
+fn mirror_part(area: &mut [u16], j: usize, from: usize, to: usize)
+    requires { ⌜ (j < 128) × (from ≤ to) × (to ≤ j) × (16384 ≤ length (now area)) ⌝ }
+    ensures { λ _. ⌜ Written (Part j from to) (opposite (now (area .entry))) (now (area .entry)) (now (area .exit)) ⌝ }
 {
-    let step = between(area, p, v);
-    let mut k = 0;
-    while k < size {
-        let u = order[k];
-        let mut longest = step;
-        if u != p {
-            let span = area[mirrored(u, p)];
-            if step < span {
-                longest = span;
-            }
-        }
-        area[mirrored(u, v)] = longest;
-        k += 1;
+    let mut i = from;
+    while i < to {
+        area[128 * j + i] = area[128 * i + j];
+        i += 1;
     }
 }
 
-// Type v is in the tree now: a type outside may be nearest by it. The place of the nearest type outside.
-fn approach(
-    area: &[u16],
-    near: &mut [u16],
-    by: &mut [usize],
-    order: &[usize],
-    size: usize,
-    n: usize,
-    v: usize,
-) -> usize
-    requires { ⌜ (n ≤ 128) × (v < 128) × (length (now near) ≡ 128) × (length (now by) ≡ 128) × Ordered n (now order)
-        × (16384 ≤ length (now area)) ⌝ }
-    ensures { λ r. ⌜ Nearest (now (order .entry)) size n r (now (near .exit))
-        × Approached (now (order .entry)) size n v (now (area .entry)) (now (near .entry)) (now (by .entry))
-        (now (near .exit)) (now (by .exit)) ⌝ }
+// The mirror cells of type j, eight and eight.
+fn mirror_line(area: &mut [u16], j: usize)
+    requires { ⌜ (j < 128) × (16384 ≤ length (now area)) ⌝ }
+    ensures { λ _. ⌜ Written (Line j j) (opposite (now (area .entry))) (now (area .entry)) (now (area .exit)) ⌝ }
 {
-    let mut best = size;
-    let mut least = 65535;
-    let mut k = size;
-    while k < n {
-        let u = order[k];
-        let step = between(area, u, v);
-        if step < near[u] {
-            near[u] = step;
-            by[u] = v;
-        }
-        let far = near[u];
-        if far <= least {
-            least = far;
-            best = k;
-        }
-        k += 1;
+    let mut i = 0;
+    while i + 8 <= j {
+        mirror_part(area, j, i, i + 8);
+        i += 8;
     }
-    best
+    mirror_part(area, j, i, j);
 }
 
-// The spans of n types, in their mirror cells.
-pub fn spans(area: &mut [u16], n: usize)
+// The mirror cells of n types hold their distances.
+fn mirror(area: &mut [u16], n: usize)
     requires { ⌜ (n ≤ 128) × (16384 ≤ length (now area)) ⌝ }
-    ensures { λ _. ⌜ Written (Mirror n) (spanOf n (now (area .entry))) (now (area .entry)) (now (area .exit)) ⌝ }
+    ensures { λ _. ⌜ Written (Mirror n) (opposite (now (area .entry))) (now (area .entry)) (now (area .exit)) ⌝ }
 {
-    let mut near = [65535u16; 128];
-    let mut by = [0usize; 128];
-    let mut order = in_order(n);
-    let mut size = 1;
-    let mut k = approach(area, &mut near, &mut by, &order, 1, n, 0);
-    while size < n {
-        let v = order[k];
-        order[k] = order[size];
-        order[size] = v;
-        let p = by[v];
-        join(area, &order, size, v, p);
-        size += 1;
-        k = approach(area, &mut near, &mut by, &order, size, n, v);
+    let mut j = 0;
+    while j < n {
+        mirror_line(area, j);
+        j += 1;
     }
+}
+
+// None of n types is in the tree. The numbers behind them are no types, and count as if they were in it.
+fn none_inside(n: usize) -> [u16; 128]
+    requires { ⌜ n ≤ 128 ⌝ }
+    ensures { λ r. ⌜ (length r ≡ 128) × ((u : ℕ) → u < n → getD r u 0 ≡ 0)
+        × ((u : ℕ) → n ≤ u → u < 128 → getD r u 0 ≡ 65535) ⌝ }
+{
+    let mut inside = [65535u16; 128];
+    let mut u = 0;
+    while u < n {
+        inside[u] = 0;
+        u += 1;
+    }
+    inside
+}
+
+// Type v is in the tree now: other types may be nearer to it. The distance of the nearest one outside.
+fn approach(area: &[u16], wide: usize, near: &mut [u16], inside: &[u16], v: usize) -> u16
+    requires { ⌜ (wide ≤ 128) × (v < 128) × (length (now near) ≡ 128) × (length (now inside) ≡ 128) × (16384 ≤ length (now area)) ⌝ }
+    ensures { λ r. ⌜ Filled wide (nearer v (now (area .entry)) (now (near .entry))) (now (near .entry)) (now (near .exit))
+        × Least wide (λ u. max (nearer v (now (area .entry)) (now (near .entry)) u) (getD (now (inside .entry)) u 0)) r ⌝ }
+{
+    let from = 128 * v;
+    let mut least = 65535;
+    let mut u = 0;
+    while u < wide {
+        let far = lesser(area[from + u], near[u]);
+        near[u] = far;
+        least = lesser(longer(far, inside[u]), least);
+        u += 1;
+    }
+    least
+}
+
+// Type u, if it is outside at distance x, and else 0.
+fn place(near: u16, inside: u16, x: u16, u: u16) -> u16
+    ensures { λ r. ⌜ Placed near inside x u r ⌝ }
+{
+    if near == x && inside == 0 { u } else { 0 }
+}
+
+// The last type outside at distance x.
+fn find(wide: usize, near: &[u16], inside: &[u16], x: u16) -> usize
+    requires { ⌜ (wide ≤ 128) × (length (now near) ≡ 128) × (length (now inside) ≡ 128) ⌝ }
+    ensures { λ r. ⌜ Found wide (now (near .entry)) (now (inside .entry)) x r ⌝ }
+{
+    let mut found = 0;
+    let mut u = 0;
+    while u < wide {
+        found = longer(place(near[u], inside[u], x, u as u16), found);
+        u += 1;
+    }
+    found as usize
+}
+
+// Type v joins by a step: its spans with the types of the tree.
+fn join_line(spans: &mut [u16], wide: usize, reach: &mut [u16], v: usize, step: u16)
+    requires { ⌜ (wide ≤ 128) × (v < 128) × (length (now reach) ≡ 128) × (16384 ≤ length (now spans)) ⌝ }
+    ensures { λ _. ⌜ Filled wide (λ u. max (getD (now (reach .entry)) u 0) step) (now (reach .entry)) (now (reach .exit))
+        × Written (Line v wide) (λ i u. max (getD (now (reach .entry)) u 0) step) (now (spans .entry)) (now (spans .exit)) ⌝ }
+{
+    let to = 128 * v;
+    let mut u = 0;
+    while u < wide {
+        let far = longer(reach[u], step);
+        reach[u] = far;
+        spans[to + u] = far;
+        u += 1;
+    }
+}
+
+// A step from type v to the types that joined behind it: its spans with them.
+fn settle_line(spans: &mut [u16], wide: usize, reach: &mut [u16], v: usize, step: u16)
+    requires { ⌜ (wide ≤ 128) × (v < 128) × (length (now reach) ≡ 128) × (16384 ≤ length (now spans)) ⌝ }
+    ensures { λ _. ⌜ Filled wide (λ u. max (getD (now (reach .entry)) u 0) step) (now (reach .entry)) (now (reach .exit))
+        × Written (Line v wide) (λ i u. min (cellAt (now (spans .entry)) i u) (max (getD (now (reach .entry)) u 0) step))
+        (now (spans .entry)) (now (spans .exit)) ⌝ }
+{
+    let to = 128 * v;
+    let mut u = 0;
+    while u < wide {
+        let far = longer(reach[u], step);
+        reach[u] = far;
+        spans[to + u] = lesser(spans[to + u], far);
+        u += 1;
+    }
+}
+
+// The tree grows: the order in which types join, their steps, and their spans with the types before them.
+fn grow(area: &[u16], spans: &mut [u16], n: usize, order: &mut [usize], steps: &mut [u16])
+    requires { ⌜ (n ≤ 128) × (length (now order) ≡ 128) × (length (now steps) ≡ 128) × Full n (now area)
+        × (16384 ≤ length (now area)) × (16384 ≤ length (now spans)) ⌝ }
+    ensures { λ _. ⌜ Grown n (now (area .entry)) (now (spans .entry)) (now (spans .exit)) (now (order .exit)) (now (steps .exit)) ⌝ }
+{
+    let wide = lanes(n);
+    let mut near = [65535u16; 128];
+    let mut inside = none_inside(n);
+    let mut reach = [65535u16; 128];
+    let mut v = 0;
+    let mut step = 0;
+    let mut size = 0;
+    while size < n {
+        order[size] = v;
+        steps[size] = step;
+        join_line(spans, wide, &mut reach, v, step);
+        reach[v] = 0;
+        inside[v] = 65535;
+        step = approach(area, wide, &mut near, &inside, v);
+        v = find(wide, &near, &inside, step);
+        size += 1;
+    }
+}
+
+// The spans of each type with the types that joined behind it, from the last type back.
+fn settle(spans: &mut [u16], n: usize, order: &[usize], steps: &[u16])
+    requires { ⌜ (n ≤ 128) × (length (now order) ≡ 128) × (length (now steps) ≡ 128) × Lined n (now order) (now steps) (now spans)
+        × (16384 ≤ length (now spans)) ⌝ }
+    ensures { λ _. ⌜ Settled n (now (order .entry)) (now (steps .entry)) (now (spans .entry)) (now (spans .exit)) ⌝ }
+{
+    let wide = lanes(n);
+    let mut reach = [65535u16; 128];
+    let mut k = n;
+    while 1 < k {
+        k -= 1;
+        let v = order[k];
+        let before = order[k - 1];
+        reach[v] = 0;
+        settle_line(spans, wide, &mut reach, before, steps[k]);
+    }
+}
+
+// The spans of n types, each in both of its cells, and their distances in both of theirs.
+pub fn spans(area: &mut [u16], spans: &mut [u16], n: usize)
+    requires { ⌜ (n ≤ 128) × (16384 ≤ length (now area)) × (16384 ≤ length (now spans)) ⌝ }
+    ensures { λ _. ⌜ Written (Mirror n) (opposite (now (area .entry))) (now (area .entry)) (now (area .exit))
+        × Spanned n (now (area .entry)) (now (spans .entry)) (now (spans .exit)) ⌝ }
+{
+    mirror(area, n);
+    let mut order = [0usize; 128];
+    let mut steps = [0u16; 128];
+    grow(area, spans, n, &mut order, &mut steps);
+    settle(spans, n, &order, &steps);
 }

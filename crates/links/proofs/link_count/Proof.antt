@@ -1,35 +1,80 @@
 -- `links::link_count` meets its contract: after j types it counted the links with the first j.
-use mathlib.Core.Path.{_≡_, refl, sym, ap, _∙_}
+use mathlib.Core.Path.{_≡_, sym, _∙_}
 use mathlib.Core.Logic.{⊎-elim}
-use mathlib.Core.Bool.{Bool, cond}
-use Prim.Native.Nat.{ℕ, _-_, _≤_}
+use Prim.Native.Nat.{ℕ, _+_, _*_, _-_, _≤_, _<_, min, max}
 use native.Mathlib.Omega.{arith}
-use Rattle.graph.specs.Below.{sum}
-use Rattle.graph.proofs.Below.{sum-more, count-le}
+use Rattle.graph.proofs.Below.{count-le}
+use Rattle.spans.specs.Tree.{mirrored}
 use Rattle.links.specs.Marks.{marked, markCount}
+use Rattle.links.proofs.Marks.{count-more, count-self}
 use Rattle.links.proofs.link_count.Statement.{statement}
 use Rattle.links.proofs.link_count.Tie as tie
 
 abbrev Inv-loop : tie.InvT-loop
-Inv-loop area n i links₀ j₀ links j = (j ≤ n) × (links ≡ markCount area j i)
+Inv-loop area n i before links₀ j₀ links j = (i < j) × (j ≤ max n (i + 1)) × (links ≡ markCount area (min j n) i)
 
 abbrev μ-loop : tie.MeasureT-loop
-μ-loop area n i links₀ j₀ links j = n - j
+μ-loop area n i before links₀ j₀ links j = n - j
+
+-- The mark read counts for the type passed.
+counted : (c : tie.After-one Inv-loop μ-loop) →
+    let l = c .before .before .before in
+    let a = l .before .before .before .before .args in
+    l .loop .links + c .one .result ≡ markCount (a .area .now) (l .loop .j + 1) (a .i)
+counted c =
+    let l = c .before .before .before in
+    let a = l .before .before .before .before .args in
+    let j = l .loop .j in
+    let e : mirrored (a .i) j ≡ 128 * j + a .i = omega arith in
+    let m : min j (a .n) ≡ j = omega arith in
+    let more = rw e at (count-more (a .area .now) (a .i) j (λ t. omega arith)) in
+    omega (arith, more, rw m at (l .loop .inv .2), c .one .ensures)
+
+links-before-requires : tie.Need-links-before-requires Inv-loop μ-loop
+links-before-requires c κs =
+    let i = c .before .before .args .i in
+    let m : c .if1 .before ≤ i = ⊎-elim (λ t. omega arith) (λ t. omega arith) (c .if1 .came) in
+    (m, omega arith, omega arith)
+
+add-j : tie.Need-add-j Inv-loop μ-loop
+add-j c = omega arith
 
 loop-holds : tie.Need-loop-holds Inv-loop μ-loop
-unfolding sum
-loop-holds c = (omega arith, refl)
+loop-holds c =
+    let a = c .before .before .before .args in
+    let counts : ℕ → ℕ = λ k. markCount (a .area .now) k (a .i) in (
+      omega arith,
+      omega arith,
+      c .links-before .ensures ∙ ⊎-elim
+          (λ t. let e : min (a .i + 1) (a .n) ≡ a .i + 1 = omega (arith, t .0 .taken) in
+          rw (t .1, e) (sym (count-self (a .area .now) (a .i))))
+          (λ t. let e : min (a .i + 1) (a .n) ≡ a .n = omega (arith, t .0 .left) in rw (t .1, e))
+          (c .before .if1 .came),
+    )
 
-linked-requires : tie.Need-linked-requires Inv-loop μ-loop
-linked-requires c κs = (omega arith, omega arith, omega arith)
+mul-one : tie.Need-mul-one Inv-loop μ-loop
+mul-one c = omega arith
+
+add-one : tie.Need-add-one Inv-loop μ-loop
+add-one c = omega arith
+
+mul-one-2 : tie.Need-mul-one-2 Inv-loop μ-loop
+mul-one-2 c = omega arith
+
+shared-slice-read-one : tie.Need-shared-slice-read-one Inv-loop μ-loop
+shared-slice-read-one c = omega arith
+
+one-requires : tie.Need-one-requires Inv-loop μ-loop
+one-requires c κs = omega arith
 
 add-links : tie.Need-add-links Inv-loop μ-loop
 add-links c =
     let l = c .before .before .before in
-    omega (arith, l .loop .inv .1, count-le (l .loop .j) (marked (l .before .before .args .area .now) (l .before .before .args .i)))
+    let a = l .before .before .before .before .args in
+    omega (arith, count-le (l .loop .j + 1) (marked (a .area .now) (a .i)), counted c)
 
-add-j : tie.Need-add-j Inv-loop μ-loop
-add-j c = omega arith
+add-j-2 : tie.Need-add-j-2 Inv-loop μ-loop
+add-j-2 c = omega arith
 
 loop-less : tie.Need-loop-less Inv-loop μ-loop
 loop-less c = omega arith
@@ -37,22 +82,20 @@ loop-less c = omega arith
 loop-again : tie.Need-loop-again Inv-loop μ-loop
 loop-again c =
     let l = c .before .before .before in
-    let a = l .before .before .args in
-    let more = sum-more (l .loop .j) (λ k. cond (marked (a .area .now) (a .i) k) 1 0) in
-    let test = sym (c .before .linked .ensures) in (
-      omega arith,
-      ⊎-elim
-          (λ w. w .1 ∙ omega (arith, l .loop .inv .1, more, ap (λ (t : Bool). cond {A = ℕ} t 1 0) (test ∙ w .0 .taken)))
-          (λ w. w .1 ∙ omega (arith, l .loop .inv .1, more, ap (λ (t : Bool). cond {A = ℕ} t 1 0) (test ∙ w .0 .left)))
-          (c .if1 .came),
-    )
+    let e : min (l .loop .j + 1) (l .before .before .before .before .args .n) ≡ l .loop .j + 1 = omega arith in
+    (omega arith, omega arith, rw e (counted c))
+
+cast-result : tie.Need-cast-result Inv-loop μ-loop
+cast-result c =
+    let l = c .before in
+    let a = l .before .before .before .before .args in
+    omega (arith, l .loop .inv .2, count-le (min (l .loop .j) (a .n)) (marked (a .area .now) (a .i)))
 
 returns : tie.Need-returns Inv-loop μ-loop
 returns c =
     let l = c .before in
-    let a = l .before .before .args in
-    let e : l .loop .j ≡ a .n = omega arith in
-    l .loop .inv .1 ∙ rw e
+    let e : min (l .loop .j) (l .before .before .before .before .args .n) ≡ l .before .before .before .before .args .n = omega arith in
+    l .loop .inv .2 ∙ rw e
 
 pub link-count-spec : {M : Type 1} → statement M
 link-count-spec =
@@ -60,10 +103,17 @@ link-count-spec =
     (tie.spec
     Inv-loop
     μ-loop
-    loop-holds
-    linked-requires
-    add-links
+    links-before-requires
     add-j
+    loop-holds
+    mul-one
+    add-one
+    mul-one-2
+    shared-slice-read-one
+    one-requires
+    add-links
+    add-j-2
     loop-less
     loop-again
+    cast-result
     returns)

@@ -11,16 +11,16 @@ use Rattle.links.proofs.mark.Statement.{statement}
 use Rattle.links.proofs.mark.Tie as tie
 
 abbrev Inv-loop : tie.InvT-loop
-Inv-loop area₀ n epsilon j₀ area j = (j ≤ n) × Written (Mirror j) (mark epsilon area₀) area₀ area
+Inv-loop area₀ spans n epsilon j₀ area j = (j ≤ n) × Written (Mirror j) (mark epsilon spans area₀) area₀ area
 
 abbrev μ-loop : tie.MeasureT-loop
-μ-loop area₀ n epsilon j₀ area j = n - j
+μ-loop area₀ spans n epsilon j₀ area j = n - j
 
 loop-holds : tie.Need-loop-holds Inv-loop μ-loop
 loop-holds c = (omega arith, none-written (λ a b t. omega arith))
 
 mark-line-requires : tie.Need-mark-line-requires Inv-loop μ-loop
-mark-line-requires c κs = (omega arith, omega arith, omega (arith, c .before .before .loop .inv .1 .size))
+mark-line-requires c κs = omega arith
 
 add-j : tie.Need-add-j Inv-loop μ-loop
 add-j c = omega arith
@@ -32,8 +32,8 @@ loop-again : tie.Need-loop-again Inv-loop μ-loop
 loop-again c =
     let m = c .before .before in
     let l = m .before .before .before in
-    let a = l .before .before .args in
-    (omega arith, line-marked (a .epsilon) (l .loop .j) (a .area .now) (omega arith) (l .loop .inv .1) (m .mark-line .ensures))
+    let a = l .before .before .before .args in
+    (omega arith, line-marked (a .epsilon) (l .loop .j) (a .spans .now) (a .area .now) (omega arith) (l .loop .inv .1) (m .mark-line .ensures))
 
 same-length : tie.Need-same-length Inv-loop μ-loop
 same-length c = c .before .loop .inv .1 .size
@@ -41,7 +41,7 @@ same-length c = c .before .loop .inv .1 .size
 returns : tie.Need-returns Inv-loop μ-loop
 returns c =
     let l = c .before in
-    let e : l .loop .j ≡ l .before .before .args .n = omega arith in
+    let e : l .loop .j ≡ l .before .before .before .args .n = omega arith in
     rw e at (l .loop .inv .1)
 
 pub mark-spec : {M : Type 1} → statement M

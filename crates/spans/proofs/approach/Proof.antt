@@ -1,119 +1,88 @@
--- `spans::approach` meets its contract: the types passed are nearest by v where v is nearer, and the nearest of them is known.
-use mathlib.Core.Path.{_≡_, _∙_}
-use mathlib.Core.Logic.{⊎-elim}
-use Prim.Native.Nat.{_-_, _≤_, _<_, max}
+-- `spans::approach` meets its contract: the types passed are as near as v or the tree, and the least of those outside is known.
+use mathlib.Core.Path.{_≡_}
+use Prim.Native.Nat.{_-_, _≤_, max}
 use native.Mathlib.Omega.{arith}
-use lib.ListN.{length, getD}
-use Rattle.spans.proofs.Turns.{
-  Passed,
-  passed-same,
-  passed-nearer,
-  Approaching,
-  approached-none,
-  approached-all,
-  approached-this,
-  approached-still,
-}
+use lib.ListN.{getD}
+use Rattle.spans.specs.Growth.{nearer, Filled, Least}
+use Rattle.spans.proofs.Turns.{filled-none, filled-more, least-none, least-more}
 use Rattle.spans.proofs.approach.Statement.{statement}
 use Rattle.spans.proofs.approach.Tie as tie
 
 abbrev Inv-loop : tie.InvT-loop
-Inv-loop area near₀ by₀ order size n v best₀ least₀ k₀ near by best least k =
-    (size ≤ k) × (k ≤ max n size) × Approaching order size n k v best least area near₀ by₀ near by
+Inv-loop area wide near₀ inside v from least₀ u₀ near least u =
+    (u ≤ wide) × Filled u (nearer v area near₀) near₀ near
+    × Least u (λ x. max (nearer v area near₀ x) (getD inside x 0)) least
 
 abbrev μ-loop : tie.MeasureT-loop
-μ-loop area near₀ by₀ order size n v best₀ least₀ k₀ near by best least k = n - k
+μ-loop area wide near₀ inside v from least₀ u₀ near least u = wide - u
 
--- What is read and written lies within.
-within : (t : tie.In-loop Inv-loop μ-loop) →
-    let g = t .before .before .before .before .before .before .args in
-    (getD (g .order .now) (t .before .loop .k) 0 < 128) × (length (t .before .loop .near) ≡ 128) × (length (t .before .loop .by) ≡ 128)
-within t =
-    let s = t .before .before .before .before .before .before in
-    let d = t .before .loop .inv .2 .done in
-    (omega (arith, s .pre .4 .stands _ (t .loop-test .taken) .0), d .near-size ∙ s .pre .2, d .by-size ∙ s .pre .3)
-
--- The type at the place passed is approached by v.
-passed : (j : tie.Joined1 Inv-loop μ-loop) →
-    let t = j .before .before .before .before in
-    let g = t .before .before .before .before .before .before .args in
-    let l = t .before .loop in
-    Passed (g .v) (getD (g .order .now) (l .k) 0) (g .area .now) (l .near) (l .by) (j .if1 .near) (j .if1 .by)
-passed j =
-    let h = within (j .before .before .before .before) in
-    let step = j .before .before .between .ensures in
-    ⊎-elim
-    (λ w. rw (w .1, w .2) (passed-nearer (omega arith) (omega arith) step (w .0 .taken)))
-    (λ w. rw (w .1, w .2) (passed-same (rw (← step) (w .0 .left))))
-    (j .if1 .came)
+mul-from : tie.Need-mul-from Inv-loop μ-loop
+mul-from c = omega arith
 
 loop-holds : tie.Need-loop-holds Inv-loop μ-loop
-loop-holds c = (omega arith, omega arith, approached-none)
+loop-holds c = (omega arith, filled-none, least-none)
 
-mul-u : tie.Need-mul-u Inv-loop μ-loop
-mul-u c = omega arith
+add-lesser : tie.Need-add-lesser Inv-loop μ-loop
+add-lesser c = omega arith
 
-shared-slice-read-u : tie.Need-shared-slice-read-u Inv-loop μ-loop
-shared-slice-read-u c = omega (arith, c .before .before .before .before .before .before .before .pre .4 .size)
+mul-lesser : tie.Need-mul-lesser Inv-loop μ-loop
+mul-lesser c = omega arith
 
-between-requires : tie.Need-between-requires Inv-loop μ-loop
-between-requires c κs = omega (arith, within (c .before))
+shared-slice-read-lesser : tie.Need-shared-slice-read-lesser Inv-loop μ-loop
+shared-slice-read-lesser c = omega arith
 
-mul-if1 : tie.Need-mul-if1 Inv-loop μ-loop
-mul-if1 c = omega (arith, within (c .before .before))
+mul-lesser-2 : tie.Need-mul-lesser-2 Inv-loop μ-loop
+mul-lesser-2 c = omega arith
 
-slice-read-if1 : tie.Need-slice-read-if1 Inv-loop μ-loop
-slice-read-if1 c = omega (arith, within (c .before .before .before))
+slice-read-lesser : tie.Need-slice-read-lesser Inv-loop μ-loop
+slice-read-lesser c = omega arith
+
+lesser-requires : tie.Need-lesser-requires Inv-loop μ-loop
+lesser-requires c κs = omega arith
 
 mul-near : tie.Need-mul-near Inv-loop μ-loop
-mul-near c = omega (arith, within (c .before .before .before .before))
+mul-near c = omega arith
 
 slice-write-near : tie.Need-slice-write-near Inv-loop μ-loop
-slice-write-near c = omega (arith, within (c .before .before .before .before))
+slice-write-near c = omega arith
 
-mul-by : tie.Need-mul-by Inv-loop μ-loop
-mul-by c = omega (arith, within (c .before .before .before .before))
+mul-longer : tie.Need-mul-longer Inv-loop μ-loop
+mul-longer c = omega arith
 
-slice-write-by : tie.Need-slice-write-by Inv-loop μ-loop
-slice-write-by c = omega (arith, within (c .before .before .before .before))
+shared-slice-read-longer : tie.Need-shared-slice-read-longer Inv-loop μ-loop
+shared-slice-read-longer c = omega arith
 
-mul-far : tie.Need-mul-far Inv-loop μ-loop
-mul-far c = omega (arith, within (c .before .before .before .before))
+longer-requires : tie.Need-longer-requires Inv-loop μ-loop
+longer-requires c κs = omega arith
 
-slice-read-far : tie.Need-slice-read-far Inv-loop μ-loop
-slice-read-far c = omega (arith, within (c .before .before .before .before .before), passed (c .before) .near-size)
+lesser-requires-2 : tie.Need-lesser-requires-2 Inv-loop μ-loop
+lesser-requires-2 c κs = omega arith
 
-add-k : tie.Need-add-k Inv-loop μ-loop
-add-k c = omega arith
+add-u : tie.Need-add-u Inv-loop μ-loop
+add-u c = omega arith
 
 loop-less : tie.Need-loop-less Inv-loop μ-loop
 loop-less c = omega arith
 
 loop-again : tie.Need-loop-again Inv-loop μ-loop
 loop-again c =
-    let j = c .before .before in
-    let t = j .before .before .before .before in
-    let s = t .before .before .before .before .before .before in
-    let o = s .pre .4 in
-    let (from, to, a) = t .before .loop .inv in
-    let h = t .loop-test .taken in
-    let u = getD (s .args .order .now) (t .before .loop .k) 0 in (
-      omega arith,
-      omega arith,
-      ⊎-elim
-          (λ w. rw (w .1, w .2) (approached-this o h from a (passed j) (w .0 .taken)))
-          (λ w. rw (w .1, w .2) (approached-still o h from a (passed j) (w .0 .left) (omega (arith, c .before .slice-known4 .given u))))
-          (c .if2 .came),
-    )
+    let l = c .before .before .before .before .before .before .before in
+    let (h, f, m) = l .loop .inv in
+    let s = l .before .before .before .before in
+    let u = l .loop .u in
+    let far : c .before .before .before .lesser .result ≡ nearer (s .args .v) (s .args .area .now) (s .args .near .now) u =
+    omega (arith, c .before .before .before .lesser .ensures, f .kept u (omega arith)) in
+    (omega arith, filled-more f (omega arith) far, least-more m (omega (arith, c .before .longer .ensures, c .lesser2 .ensures)))
 
 same-length : tie.Need-same-length Inv-loop μ-loop
-same-length c = c .before .loop .inv .2 .done .near-size
-
-same-length-2 : tie.Need-same-length-2 Inv-loop μ-loop
-same-length-2 c = c .before .loop .inv .2 .done .by-size
+same-length c = c .before .loop .inv .1 .size
 
 returns : tie.Need-returns Inv-loop μ-loop
-returns c = let (_, m, a) = c .before .loop .inv in approached-all (omega arith) m a
+returns c =
+    let l = c .before .loop in
+    let e : l .u ≡ c .before .before .before .before .before .args .wide = omega arith in
+    let (h, f, m) = l .inv in
+    (rw e at f, rw e at m)
 
 pub approach-spec : {M : Type 1} → statement M
 approach-spec =
@@ -121,21 +90,22 @@ approach-spec =
     (tie.spec
     Inv-loop
     μ-loop
+    mul-from
     loop-holds
-    mul-u
-    shared-slice-read-u
-    between-requires
-    mul-if1
-    slice-read-if1
+    add-lesser
+    mul-lesser
+    shared-slice-read-lesser
+    mul-lesser-2
+    slice-read-lesser
+    lesser-requires
     mul-near
     slice-write-near
-    mul-by
-    slice-write-by
-    mul-far
-    slice-read-far
-    add-k
+    mul-longer
+    shared-slice-read-longer
+    longer-requires
+    lesser-requires-2
+    add-u
     loop-less
     loop-again
     same-length
-    same-length-2
     returns)

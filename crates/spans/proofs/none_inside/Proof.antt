@@ -1,0 +1,54 @@
+-- `spans::none_inside` meets its contract: the types passed are outside.
+use mathlib.Core.Path.{_≡_, refl, _∙_}
+use Prim.Native.Nat.{_-_, _≤_}
+use native.Mathlib.Omega.{arith}
+use lib.ListN.{replicate, getD-replicate}
+use Rattle.spans.specs.Growth.{Filled}
+use Rattle.spans.proofs.Turns.{filled-none, filled-more}
+use Rattle.spans.proofs.none_inside.Statement.{statement}
+use Rattle.spans.proofs.none_inside.Tie as tie
+
+abbrev Inv-loop : tie.InvT-loop
+Inv-loop n inside₀ u₀ inside u = (u ≤ n) × Filled u (λ x. 0) (replicate 128 65535) inside
+
+abbrev μ-loop : tie.MeasureT-loop
+μ-loop n inside₀ u₀ inside u = n - u
+
+loop-holds : tie.Need-loop-holds Inv-loop μ-loop
+loop-holds c = (omega arith, filled-none)
+
+mul-inside : tie.Need-mul-inside Inv-loop μ-loop
+mul-inside c = omega arith
+
+array-write-inside : tie.Need-array-write-inside Inv-loop μ-loop
+array-write-inside c = omega arith
+
+add-u : tie.Need-add-u Inv-loop μ-loop
+add-u c = omega arith
+
+loop-less : tie.Need-loop-less Inv-loop μ-loop
+loop-less c = omega arith
+
+loop-again : tie.Need-loop-again Inv-loop μ-loop
+loop-again c = (omega arith, filled-more (c .before .loop .inv .1) (omega arith) refl)
+
+returns : tie.Need-returns Inv-loop μ-loop
+returns c =
+    let l = c .before .loop in
+    let f = l .inv .1 in
+    let e : l .u ≡ c .before .before .args .n = omega arith in
+    (f .size, λ u h. f .holds u (omega arith), λ u h b. f .kept u (omega arith) ∙ getD-replicate 128 u 65535 0 b)
+
+pub none-inside-spec : {M : Type 1} → statement M
+none-inside-spec =
+    tie.close
+    (tie.spec
+    Inv-loop
+    μ-loop
+    loop-holds
+    mul-inside
+    array-write-inside
+    add-u
+    loop-less
+    loop-again
+    returns)
