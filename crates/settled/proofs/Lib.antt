@@ -1,0 +1,5 @@
+pub mod Words
+pub mod Spelt
+pub mod Narrow
+pub mod Cached
+pub mod Mixing
