@@ -1,7 +1,7 @@
-// The room of settled triplets: whether every median vector of a triplet is a row that was made already, told without making one. It
-// reads the state area. Two rows make a word, with bit c set where they differ in character c. From the words of a triplet it is known
-// in which characters a median vector has the states of one of the types and in which those of another, and so a row made is known for
-// the median vector by its two words with these types. Which row to try is guessed.
+// The room of settled triplets: whether every median vector of a triplet is known to be a row made, told without making one. It reads
+// the state area. Two rows have a word, with bit c set where they differ in character c, and words are kept once they are known. They
+// tell in which characters a median vector has the states of which type, so a row made is known to be the vector by its words with
+// two of the types. Which row to try is guessed by a table of hints that may hold any numbers: a guess is checked.
 
 ghost use mathlib.Core.Path.{_≡_};
 ghost use mathlib.Core.Bool.{true, false, not};
@@ -12,10 +12,10 @@ ghost use Rattle.settled.specs.Words.{bit, apartIn, aloneIn, Cached};
 ghost use Rattle.settled.specs.Settled.{Unused, Narrow, Room, Mixed, PairsOf, Settled};
 use triplets::Triplet;
 
-// A word that is not known yet. (Rows that differ in the last character only make the same word: it is made anew each time.)
+// A word that is not known yet. (Rows that differ in the last of 64 characters only have this word too: it is made each time.)
 pub const NONE: u64 = 9223372036854775808;
 
-// Whether a character is in use.
+// Whether a row made holds a state in character c.
 fn used(states: &[u8], made: usize, c: usize) -> bool
     requires { ⌜ (c < 64) × (64 * made ≤ length (now states)) ⌝ }
     ensures { λ r. ⌜ (r ≡ false → Unused (now (states .entry)) made c) ⌝ }
@@ -45,6 +45,10 @@ pub fn width(states: &[u8], made: usize) -> usize
     m
 }
 
+fn wide(x: u8) -> u64 {
+    x as u64
+}
+
 // Eight states in a word, the first lowest.
 fn eight(states: &[u8], at: usize) -> u64
     requires { ⌜ at + 8 ≤ length (now states) ⌝ }
@@ -57,10 +61,6 @@ fn eight(states: &[u8], at: usize) -> u64
         | (wide(states[at + 5]) << 40)
         | (wide(states[at + 6]) << 48)
         | (wide(states[at + 7]) << 56)
-}
-
-fn wide(x: u8) -> u64 {
-    x as u64
 }
 
 // Eight bytes of eight bits, turned: byte p has bit p of each, in their order.
@@ -163,6 +163,7 @@ fn unlike(x: u8, y: u8) -> u64
     if x == y { 0 } else { 1 }
 }
 
+// The word of rows i and j, of m characters.
 fn apart(states: &[u8], m: usize, i: usize, j: usize) -> u64
     requires { ⌜ (m ≤ 64) × (64 * i + 64 ≤ length (now states)) × (64 * j + 64 ≤ length (now states)) ⌝ }
     ensures { λ r. ⌜ r ≡ apartIn (now (states .entry)) m i j ⌝ }
@@ -178,6 +179,7 @@ fn apart(states: &[u8], m: usize, i: usize, j: usize) -> u64
     word
 }
 
+// The same, kept or made now. It is kept for both orders of the rows.
 fn word_of(states: &[u8], masks: &mut [u64], m: usize, made: usize, i: usize, j: usize) -> u64
     requires { ⌜ Room (now states) m made (now masks) × (i < made) × (j < made) ⌝ }
     ensures { λ r. ⌜ (r ≡ apartIn (now (states .entry)) m i j) × Room (now (states .entry)) m made (now (masks .exit))
@@ -193,6 +195,7 @@ fn word_of(states: &[u8], masks: &mut [u64], m: usize, made: usize, i: usize, j:
     found
 }
 
+// Whether a row made is known to have the states of row v in the characters of k, and those of row u in the others.
 fn is_made(
     states: &[u8],
     masks: &mut [u64],
@@ -247,7 +250,7 @@ fn alone(uv: u64, uw: u64, vw: u64) -> u64
     both - (both & vw)
 }
 
-// Whether three median vectors, which take the states of u, of v and of w where all three differ, are known to be rows made.
+// Whether the three median vectors are known to be rows made: where all three types differ they have u's states, v's and w's.
 fn three_made(
     states: &[u8],
     masks: &mut [u64],
@@ -262,40 +265,16 @@ fn three_made(
     ensures { λ r. ⌜ (r ≡ true → Settled (now (states .entry)) made t) × Room (now (states .entry)) m made (now (masks .exit))
         × (length (now (masks .exit)) ≡ length (now (masks .entry))) ⌝ }
 {
-    if !is_made(
-        states,
-        masks,
-        hints,
-        m,
-        made,
-        t.u,
-        t.v,
-        alone(p.uv, p.uw, p.vw),
-    ) {
+    let k = alone(p.uv, p.uw, p.vw);
+    if !is_made(states, masks, hints, m, made, t.u, t.v, k) {
         return false;
     }
-    if !is_made(
-        states,
-        masks,
-        hints,
-        m,
-        made,
-        t.v,
-        t.u,
-        alone(p.uv, p.vw, p.uw),
-    ) {
+    let l = alone(p.uv, p.vw, p.uw);
+    if !is_made(states, masks, hints, m, made, t.v, t.u, l) {
         return false;
     }
-    is_made(
-        states,
-        masks,
-        hints,
-        m,
-        made,
-        t.w,
-        t.u,
-        alone(p.uw, p.vw, p.uv),
-    )
+    let n = alone(p.uw, p.vw, p.uv);
+    is_made(states, masks, hints, m, made, t.w, t.u, n)
 }
 
 // Whether every median vector of a triplet is known to be a row made. Where there is no room for words or hints, no triplet is.
@@ -321,17 +300,9 @@ pub fn settled(
     let p = pairs_of(states, masks, m, made, t);
     let all = p.uv & p.uw & p.vw;
     if all == 0 {
-        // two of the types agree in every character, and the median vectors are one
-        return is_made(
-            states,
-            masks,
-            hints,
-            m,
-            made,
-            t.u,
-            t.v,
-            alone(p.uv, p.uw, p.vw),
-        );
+        // in every character two of the types agree, so the median vectors are one
+        let k = alone(p.uv, p.uw, p.vw);
+        return is_made(states, masks, hints, m, made, t.u, t.v, k);
     }
     three_made(states, masks, hints, m, made, t, p)
 }

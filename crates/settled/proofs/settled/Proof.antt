@@ -33,7 +33,7 @@ returns-3 c =
     let none = k .before .before .before in
     let q = none .before .before .before .before .before in
     let p = q .before .before .before .before .before .before .before .pre in (
-      λ e. settled-one _ _ _ (p .0) (p .3) _ _ (p .4) (p .5) (p .6) (q .pairs-of .ensures .0) (none .if3 .taken) (k .before .alone .ensures) (k .is-made .ensures .0 e),
+      λ e. settled-one _ _ _ (p .0) (p .3) _ _ (p .4) (p .5) (p .6) (q .pairs-of .ensures .0) (none .if3 .taken) (k .before .before .alone .ensures) (k .is-made .ensures .0 e),
       k .is-made .ensures .1 .cached,
       k .is-made .ensures .2 ∙ q .pairs-of .ensures .2,
     )

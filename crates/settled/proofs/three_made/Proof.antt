@@ -53,7 +53,7 @@ returns-3 c =
     let first = l .before .before .before in
     let k = first .before .before .before in
     let p = k .before .before .before .before .before .before .pre in (
-      λ e. settled-three _ _ _ (p .0) (p .1 .rows) _ _ (p .3) (p .4) (p .5) (p .6) (k .before .alone .ensures) (l .before .alone2 .ensures) (n .before .alone3 .ensures)
+      λ e. settled-three _ _ _ (p .0) (p .1 .rows) _ _ (p .3) (p .4) (p .5) (p .6) (k .before .before .alone .ensures) (l .before .before .alone2 .ensures) (n .before .before .alone3 .ensures)
           (k .is-made .ensures .0 (not-false _ (first .if1 .left))) (l .is-made2 .ensures .0 (not-false _ (second .if2 .left))) (n .is-made3 .ensures .0 e),
       n .is-made3 .ensures .1,
       n .is-made3 .ensures .2 ∙ l .is-made2 .ensures .2 ∙ k .is-made .ensures .2,
