@@ -30,7 +30,7 @@ aloneIn uv uw vw = bitAnd uv uw - bitAnd (bitAnd uv uw) vw
 
 -- A word that is not known.
 abbrev pub none : ℕ
-none = 9223372036854775808
+none = 18446744073709551614
 
 -- Each word that is kept, 128 to a row, is right or not known.
 abbrev pub Cached : Bytes → ℕ → ℕ → List ℕ → Type 0

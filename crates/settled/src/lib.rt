@@ -12,8 +12,9 @@ ghost use Rattle.settled.specs.Words.{bit, apartIn, aloneIn, Cached};
 ghost use Rattle.settled.specs.Settled.{Unused, Narrow, Room, Mixed, PairsOf, Settled};
 use triplets::Triplet;
 
-// A word that is not known yet. (Rows that differ in the last of 64 characters only have this word too: it is made each time.)
-pub const NONE: u64 = 9223372036854775808;
+// A word that is not known yet, and a hint that is none. (Rows that agree in the first of 64 characters only have this word too: it is
+// made each time.)
+pub const NONE: u64 = 18446744073709551614;
 
 // Whether a row made holds a state in character c.
 fn used(states: &[u8], made: usize, c: usize) -> bool
@@ -106,11 +107,15 @@ fn planes_of(states: &[u8], m: usize, i: usize) -> Planes
     }
 }
 
-// Where the row with these planes is looked for: in the table behind the planes.
+// Where the row with these planes is looked for: in the table behind the planes. (A prime that is not close to a power of 2 mixes
+// well, and dividing by this one takes few steps.)
 fn slot(p: Planes) -> usize
     ensures { λ r. ⌜ r < 4608 ⌝ }
 {
-    512 + ((p.ones ^ (p.twos << 16) ^ (p.fours << 32) ^ (p.eights << 48)) % 4093) as usize
+    let twos = (p.twos << 16) | (p.twos >> 48);
+    let fours = (p.fours << 32) | (p.fours >> 32);
+    let eights = (p.eights << 48) | (p.eights >> 16);
+    512 + ((p.ones ^ twos ^ fours ^ eights) % 4021) as usize
 }
 
 // The hints of row i: its planes, and its number in their slot.
