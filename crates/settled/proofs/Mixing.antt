@@ -10,8 +10,7 @@ use lib.Dec.{eqb}
 use lib.ListN.{length, getD}
 use borrow.Author.Tests.{eqb-true, eqb-false, ne-eqb}
 use Rattle.rules.specs.Job.{Bytes}
-use Rattle.rules.specs.Types.{rowAt}
-use Rattle.rules.specs.Median.{common, median, medians}
+use Rattle.rules.specs.Median.{common, median}
 use Rattle.rules.proofs.Between.{Held, common-held, median-is, median-held, each-median, one-of-length}
 use Rattle.types.specs.State.{storedAt}
 use Rattle.types.proofs.State.{length-storedAt, storedAt-state}

@@ -4,7 +4,6 @@ use mathlib.Core.Path.{sym}
 use mathlib.Core.Bool.{false≢true}
 use native.Mathlib.Omega.{arith}
 use borrow.Author.Count.{below-none, below-more}
-use borrow.Author.Needs.{needs}
 use Rattle.settled.specs.Settled.{Unused}
 use Rattle.settled.proofs.used.Statement.{statement}
 use Rattle.settled.proofs.used.Tie as tie

@@ -1,6 +1,5 @@
 -- `settled::width` meets its contract: from character m on no row made holds a state.
 use native.Mathlib.Omega.{arith}
-use borrow.Author.Needs.{needs}
 use Rattle.settled.specs.Settled.{Narrow}
 use Rattle.settled.proofs.Narrow.{narrow-all, narrow-less}
 use Rattle.settled.proofs.width.Statement.{statement}
