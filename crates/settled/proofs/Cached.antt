@@ -23,7 +23,7 @@ all-none (suc k) (suc n) = all-none k n
 
 -- A list of words that are not known, of any length, holds no wrong one.
 pub none-cached : (states : Bytes) (m made k : ℕ) → Cached states m made (replicate k none)
-none-cached states m made k i j hi hj = inl (all-none k (128 * i + j))
+none-cached states m made k = record { each = λ i j hi hj. inl (all-none k (128 * i + j)) }
 
 -- An element inside is read the same whatever stands for one outside.
 inside : (xs : List ℕ) (i d e : ℕ) → i < length xs → getD xs i d ≡ getD xs i e
@@ -43,7 +43,7 @@ module _ (states : Bytes) (m made : ℕ) (masks : List ℕ) (i j : ℕ) (hi : i 
   pub kept-right : Room states m made masks → getD masks (128 * i + j) 0 ≢ none → getD masks (128 * i + j) 0 ≡ apartIn states m i j
   kept-right room known =
       let same = inside masks (128 * i + j) 0 none (omega (arith, room .few, room .words)) in
-      ⊎-elim (λ e. absurd (known (same ∙ e))) (λ e. same ∙ e) (room .cached i j hi hj)
+      ⊎-elim (λ e. absurd (known (same ∙ e))) (λ e. same ∙ e) (room .cached .each i j hi hj)
 
   -- One word is kept.
   room-one : (r : ℕ) → r ≡ apartIn states m i j → Room states m made masks → Room states m made (set masks (128 * i + j) r)
@@ -52,13 +52,15 @@ module _ (states : Bytes) (m made : ℕ) (masks : List ℕ) (i j : ℕ) (hi : i 
     few = room .few;
     rows = room .rows;
     words = rw length-set (room .words);
-    cached = λ a b ha hb. elim (ℕ-discrete (128 * a + b) (128 * i + j)) [
-      | yes f ↦
-          let at : a ≡ i = omega (arith, room .few) in
-          let to : b ≡ j = omega (arith, room .few) in
-          inr (rw (at, to) (getD-set-same masks (128 * i + j) r none (omega (arith, room .few, room .words)) ∙ e))
-      | no f ↦ rw (getD-set-other masks (128 * i + j) (128 * a + b) r none f) (room .cached a b ha hb)
-    ];
+    cached = record {
+      each = λ a b ha hb. elim (ℕ-discrete (128 * a + b) (128 * i + j)) [
+        | yes f ↦
+            let at : a ≡ i = omega (arith, room .few) in
+            let to : b ≡ j = omega (arith, room .few) in
+            inr (rw (at, to) (getD-set-same masks (128 * i + j) r none (omega (arith, room .few, room .words)) ∙ e))
+        | no f ↦ rw (getD-set-other masks (128 * i + j) (128 * a + b) r none f) (room .cached .each a b ha hb)
+      ];
+    };
   }
 
 -- It is kept for both orders.

@@ -32,7 +32,6 @@ aloneIn uv uw vw = bitAnd uv uw - bitAnd (bitAnd uv uw) vw
 abbrev pub none : ℕ
 none = 18446744073709551614
 
--- Each word that is kept, 128 to a row, is right or not known.
-abbrev pub Cached : Bytes → ℕ → ℕ → List ℕ → Type 0
-Cached states m made masks =
-    (i j : ℕ) → i < made → j < made → (getD masks (128 * i + j) none ≡ none) ⊎ (getD masks (128 * i + j) none ≡ apartIn states m i j)
+-- Each word that is kept, 128 to a row, is not known or right.
+pub record Cached (states : Bytes) (m made : ℕ) (masks : List ℕ) : Type 0 where
+  pub each : (i j : ℕ) → i < made → j < made → (getD masks (128 * i + j) none ≡ none) ⊎ (getD masks (128 * i + j) none ≡ apartIn states m i j)
