@@ -3,19 +3,31 @@ use mathlib.Core.Path.{_≡_}
 use mathlib.Core.Logic.{_↔_}
 use mathlib.Core.Bool.{true, false}
 use mathlib.Core.List.{List}
-use Prim.Native.Nat.{ℕ, _+_, _≤_, _<_}
+use Prim.Native.Nat.{ℕ, _+_, _*_, _≤_, _<_}
 use lib.ListN.{length, replicate}
 use Rattle.graph.proofs.Below.{In}
 use Rattle.rules.specs.Job.{Bytes}
 use Rattle.rules.specs.Call.{padded}
 use Rattle.rules.proofs.Rounds.{AscendingRows}
 use Rattle.types.specs.State.{laid}
+use Rattle.distances.specs.Area.{Weighed}
+use Rattle.triplets.specs.Followers.{Followers}
 use Rattle.sweep.specs.Candidate.{Candidate, Faithful}
 use Rattle.candidates.specs.declared.Added.{Added}
 
 -- No row, because there is no room.
 abbrev pub NoneFits : Added → Type 0
 NoneFits r = (r .rows ≡ replicate 8192 0) × (r .count ≡ 0) × (r .full ≡ true)
+
+-- What it takes to choose a round's rows: n types are current, and who is linked with them is known.
+pub record Choosing (states : Bytes) (area ws next : List ℕ) (n made e : ℕ) : Type 0 where
+  pub weighed : Weighed ws
+  pub follows : Followers area n next
+  pub current : n ≤ made
+  pub few : made ≤ 128
+  pub small : e ≤ 65535
+  pub lie : 64 * made ≤ length states
+  pub cells : 16384 ≤ length area
 
 -- A candidate that the round adds: one of its costs is at most the cost of any candidate and epsilon.
 pub record InWindow (ws : List ℕ) (states : Bytes) (area : List ℕ) (n made e : ℕ) (x : Bytes) : Type 0 where

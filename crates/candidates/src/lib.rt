@@ -2,11 +2,11 @@
 // the round adds. It reads the state area and the distance area.
 
 ghost use mathlib.Core.Path.{_≡_};
-ghost use Prim.Native.Nat.{_*_, _≤_};
+ghost use Prim.Native.Nat.{_*_, _≤_, _<_};
 ghost use lib.ListN.{length};
 ghost use Rattle.distances.specs.Area.{Weighed};
-ghost use Rattle.triplets.specs.Followers.{Followers};
-ghost use Rattle.candidates.specs.Fresh.{NoneFits, Fresh};
+ghost use Rattle.sweep.specs.Candidate.{Worded};
+ghost use Rattle.candidates.specs.Fresh.{NoneFits, Choosing, Fresh};
 use ascending::ascending;
 use known::guess_all;
 use search::Search;
@@ -39,18 +39,32 @@ fn choose(
     area: &[u16],
     weights: &[u16],
     next: &[u16],
+    masks: &mut [u64],
+    hints: &[u64],
+    m: usize,
     n: usize,
     made: usize,
     epsilon: usize,
 ) -> Added
-    requires { ⌜ Weighed (now weights) × (n ≤ made) × (made ≤ 128) × (epsilon ≤ 65535) × (64 * made ≤ length (now states)) × (16384 ≤ length (now area))
-        × Followers (now area) n (now next) ⌝ }
+    requires { ⌜ Choosing (now states) (now area) (now weights) (now next) n made epsilon × Worded (now states) (now masks) m made ⌝ }
     ensures { λ r. ⌜ Fresh (now (weights .entry)) (now (states .entry)) (now (area .entry)) n made epsilon r ⌝ }
 {
     let mut guesses = guess_all(states, made);
     let mut rows = [0u8; 8192];
     let any = Search::for_lambda(made);
-    let least = sweep(states, area, weights, next, &mut rows, &mut guesses, n, any);
+    let least = sweep(
+        states,
+        area,
+        weights,
+        next,
+        masks,
+        hints,
+        &mut rows,
+        &mut guesses,
+        m,
+        n,
+        any,
+    );
     if least.below == any.below {
         return Added {
             rows,
@@ -64,8 +78,11 @@ fn choose(
         area,
         weights,
         next,
+        masks,
+        hints,
         &mut rows,
         &mut guesses,
+        m,
         n,
         window,
     );
@@ -78,6 +95,101 @@ fn choose(
         count: all.count,
         full: false,
     }
+}
+
+// The same, with memory for words and hints of the rows made.
+fn choose_with_words(
+    states: &[u8],
+    area: &[u16],
+    weights: &[u16],
+    next: &[u16],
+    n: usize,
+    made: usize,
+    epsilon: usize,
+) -> Added
+    requires { ⌜ Choosing (now states) (now area) (now weights) (now next) n made epsilon ⌝ }
+    ensures { λ r. ⌜ Fresh (now (weights .entry)) (now (states .entry)) (now (area .entry)) n made epsilon r ⌝ }
+{
+    let mut masks = [settled::NONE; 16384];
+    let mut hints = [1u64; 4608];
+    let m = settled::width(states, made);
+    settled::hints(states, &mut hints, m, made);
+    choose(
+        states,
+        area,
+        weights,
+        next,
+        &mut masks,
+        &hints,
+        m,
+        n,
+        made,
+        epsilon,
+    )
+}
+
+// The same, with no memory for them: every triplet that can matter is visited.
+fn choose_without_words(
+    states: &[u8],
+    area: &[u16],
+    weights: &[u16],
+    next: &[u16],
+    n: usize,
+    made: usize,
+    epsilon: usize,
+) -> Added
+    requires { ⌜ Choosing (now states) (now area) (now weights) (now next) n made epsilon ⌝ }
+    ensures { λ r. ⌜ Fresh (now (weights .entry)) (now (states .entry)) (now (area .entry)) n made epsilon r ⌝ }
+{
+    let mut masks = [settled::NONE; 1];
+    let hints = [1u64; 1];
+    choose(
+        states,
+        area,
+        weights,
+        next,
+        &mut masks,
+        &hints,
+        64,
+        n,
+        made,
+        epsilon,
+    )
+}
+
+// 1 for the mark of a link.
+fn one(mark: u16) -> u16
+    ensures { λ r. ⌜ r ≤ 1 ⌝ }
+{
+    if mark == 1 { 1 } else { 0 }
+}
+
+// How many types below type i are linked with it.
+fn links_below(area: &[u16], i: usize) -> u16
+    requires { ⌜ (i < 128) × (16384 ≤ length (now area)) ⌝ }
+    ensures { λ r. ⌜ r ≤ i ⌝ }
+{
+    let line = 128 * i;
+    let mut links = 0u16;
+    let mut j = 0;
+    while j < i {
+        links += one(area[line + j]);
+        j += 1;
+    }
+    links
+}
+
+// Whether the types have some four links each, so that words of rows are worth their making. One line of four is looked at.
+fn many_links(area: &[u16], n: usize) -> bool
+    requires { ⌜ (n ≤ 128) × (16384 ≤ length (now area)) ⌝ }
+{
+    let mut links = 0usize;
+    let mut i = 0;
+    while i < n {
+        links += links_below(area, i) as usize;
+        i += 4;
+    }
+    n <= 2 * links
 }
 
 // The rows that a round adds, where n types are current.
@@ -94,5 +206,8 @@ pub fn fresh(
 {
     let mut next = [256u16; 16512];
     followers(area, &mut next, n);
-    choose(states, area, weights, &next, n, made, epsilon)
+    if 16 <= n && many_links(area, n) {
+        return choose_with_words(states, area, weights, &next, n, made, epsilon);
+    }
+    choose_without_words(states, area, weights, &next, n, made, epsilon)
 }

@@ -1,6 +1,6 @@
 -- The walk through the triplets: at a type c, the types linked with it are met one after the other. What is asked for up to the next
 -- one is what was asked for up to this one, and what is met here.
-use mathlib.Core.Path.{_≡_, sym, _∙_}
+use mathlib.Core.Path.{_≡_, refl, sym, _∙_}
 use mathlib.Core.Logic.{_⊎_, inl, inr, ⊎-elim}
 use mathlib.Core.Bool.{true, false, false≢true}
 use mathlib.Core.List.{List}
@@ -13,11 +13,13 @@ use Rattle.links.specs.Marks.{marked}
 use Rattle.triplets.specs.Followers.{Follower, Followers}
 use Rattle.triplets.specs.Triplet.{inOrder, canMatter}
 use Rattle.triplets.specs.declared.Triplet.{Triplet}
+use Rattle.settled.specs.Words.{Cached}
+use Rattle.settled.specs.Settled.{Settled}
 use Rattle.search.specs.declared.Search.{Search}
 use Rattle.search.specs.Search.{Inside}
 use Rattle.search.specs.Swept.{Gives, Swept}
 use Rattle.search.proofs.Sweeping.{Rows, swept-none, swept-more, swept-as, swept-at}
-use Rattle.sweep.specs.Candidate.{IsTriplet, Candidate, Faithful, WithFirst, AtCentre, Everywhere, Ready}
+use Rattle.sweep.specs.Candidate.{IsTriplet, Candidate, Faithful, WithFirst, AtCentre, Everywhere, Ready, Kept}
 use Rattle.sweep.proofs.Dropped.{dropped}
 
 -- A walk has come to a type that is linked with c, from `start` on, or to n.
@@ -85,20 +87,42 @@ module _ {ws : List ℕ} {states : Bytes} {area : List ℕ} {n made c : ℕ} {x 
         inr (k .faithful, rw e at (k .met-here), rw e at (k .gives))
   ]
 
-module _ {states : Bytes} {area ws next : List ℕ} {found₀ guesses₀ : Bytes} {n : ℕ} {s₀ : Search}
-    (ready : Ready states area ws next found₀ guesses₀ n s₀) where
+-- What is kept is kept by one sweep after the other.
+pub kept-then : {states : Bytes} {m made made′ : ℕ} {masks₀ masks₁ masks₂ guesses₁ guesses₂ : List ℕ} → made′ ≡ made →
+    Kept states m made masks₀ masks₁ guesses₁ → Kept states m made′ masks₁ masks₂ guesses₂ → Kept states m made masks₀ masks₂ guesses₂
+kept-then e a b = record { worded = rw e at (b .worded); masks-size = b .masks-size ∙ a .masks-size; guesses-size = b .guesses-size }
+
+-- More words are known, or the guesses changed.
+pub kept-words : {states : Bytes} {m made made′ : ℕ} {masks₀ masks₁ masks₂ guesses : List ℕ} → made′ ≡ made →
+    Kept states m made masks₀ masks₁ guesses → Cached states m made′ masks₂ → length masks₂ ≡ length masks₁ → Kept states m made masks₀ masks₂ guesses
+kept-words e a cached size = record {
+  worded = record { narrow = a .worded .narrow; cached = rw e at cached };
+  masks-size = size ∙ a .masks-size;
+  guesses-size = a .guesses-size;
+}
+
+pub kept-guesses : {states : Bytes} {m made : ℕ} {masks₀ masks guesses guesses′ : List ℕ} → Kept states m made masks₀ masks guesses →
+    length guesses′ ≡ 4096 → Kept states m made masks₀ masks guesses′
+kept-guesses a size = record { worded = a .worded; masks-size = a .masks-size; guesses-size = size }
+
+module _ {states : Bytes} {area ws next masks₀ : List ℕ} {found₀ guesses₀ : Bytes} {m n : ℕ} {s₀ : Search}
+    (ready : Ready states area ws next masks₀ found₀ guesses₀ m n s₀) where
+  pub kept-none : Kept states m (s₀ .made) masks₀ masks₀ guesses₀
+  kept-none = record { worded = ready .worded; masks-size = refl; guesses-size = ready .guesses-size }
+
   -- What a search needs, it has after a sweep too.
-  pub still-ready : {A G : Rows} {found guesses : Bytes} {s : Search} → Swept A G found₀ s₀ found s → length guesses ≡ 4096 →
-      Ready states area ws next found guesses n s
-  still-ready a size = record {
+  pub still-ready : {A G : Rows} {masks : List ℕ} {found guesses : Bytes} {s : Search} → Swept A G found₀ s₀ found s →
+      Kept states m (s₀ .made) masks₀ masks guesses → Ready states area ws next masks found guesses m n s
+  still-ready a kept = record {
     weighed = ready .weighed;
     follows = ready .follows;
+    worded = rw (a .made-stays) (kept .worded);
     current = rw (a .made-stays) (ready .current);
     room = a .room;
     lie = rw (a .made-stays) (ready .lie);
     cells = ready .cells;
     found-size = a .size ∙ ready .found-size;
-    guesses-size = size;
+    guesses-size = kept .guesses-size;
     low = omega (arith, a .no-higher, ready .low);
   }
 
@@ -154,7 +178,7 @@ module _ {states : Bytes} {area ws next : List ℕ} {found₀ guesses₀ : Bytes
           Swept (WithFirst ws states area n (s₀ .made) c a at) (Given (s₀ .made)) found₀ s₀ found₀ s₀
       first-none f = none-asked (λ x cost k. omega (arith, k .higher, not-passed f (k .b) (k .linked) (k .within)))
 
-      -- It comes to a type b, and its triplet is skipped, dropped or visited.
+      -- It comes to a type b, and its triplet is skipped, dropped, settled or visited.
       module _ {b to : ℕ} {found : Bytes} {s : Search} (follows : Follower area n c (b + 1) to)
           (so-far : Swept (WithFirst ws states area n (s₀ .made) c a b) (Given (s₀ .made)) found₀ s₀ found s) where
         first-more : {found′ : Bytes} {s′ : Search} →
@@ -181,6 +205,16 @@ module _ {states : Bytes} {area ws next : List ℕ} {found₀ guesses₀ : Bytes
               (λ x cost k.
               let gives : Gives ws states (s .made) t x cost = rw is (k .2) in
               inl (dropped (ready .weighed) lie (triplet .rising) inside (k .0) (triplet .current) gives (s .below) e))
+              (so-far .room))
+
+          -- All its median vectors are rows made.
+          pub first-settled : Settled states (s .made) t → Swept (WithFirst ws states area n (s₀ .made) c a to) (Given (s₀ .made)) found₀ s₀ found s
+          first-settled settled =
+              first-more (swept-none
+              (λ x cost k.
+              let gives : Gives ws states (s .made) t x cost = rw is (k .2) in
+              let (i, h, e) = settled (gives .median .number) (gives .median .below-three) in
+              absurd (gives .unmade i h (e ∙ sym (gives .median .row-is))))
               (so-far .room))
 
           -- It is visited, and what it gives is a candidate.

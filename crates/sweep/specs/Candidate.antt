@@ -13,6 +13,8 @@ use Rattle.links.specs.Marks.{marked}
 use Rattle.triplets.specs.Followers.{Followers}
 use Rattle.triplets.specs.Triplet.{inOrder}
 use Rattle.triplets.specs.declared.Triplet.{Triplet}
+use Rattle.settled.specs.Words.{Cached}
+use Rattle.settled.specs.Settled.{Narrow}
 use Rattle.search.specs.Swept.{Gives}
 use Rattle.search.specs.declared.Search.{Search}
 
@@ -56,10 +58,16 @@ pub record Everywhere (ws : List ℕ) (states : Bytes) (area : List ℕ) (n made
   pub within : c < to
   pub rest : AtCentre ws states area n made c n x cost
 
--- What a search through the triplets of n types needs.
-pub record Ready (states : Bytes) (area ws next : List ℕ) (found : Bytes) (guesses : List ℕ) (n : ℕ) (s : Search) : Type 0 where
+-- Words of the rows made, of the characters below m, that are right where they are known; from m on the rows hold zeros.
+pub record Worded (states : Bytes) (masks : List ℕ) (m made : ℕ) : Type 0 where
+  pub narrow : Narrow states made m
+  pub cached : Cached states m made masks
+
+-- What a search through the triplets of n types needs, and what it keeps besides the rows found.
+pub record Ready (states : Bytes) (area ws next masks : List ℕ) (found : Bytes) (guesses : List ℕ) (m n : ℕ) (s : Search) : Type 0 where
   pub weighed : Weighed ws
   pub follows : Followers area n next
+  pub worded : Worded states masks m (s .made)
   pub current : n ≤ s .made
   pub room : s .made + s .count ≤ 128
   pub lie : 64 * s .made ≤ length states
@@ -67,3 +75,8 @@ pub record Ready (states : Bytes) (area ws next : List ℕ) (found : Bytes) (gue
   pub found-size : length found ≡ 8192
   pub guesses-size : length guesses ≡ 4096
   pub low : s .below ≤ 200000
+
+pub record Kept (states : Bytes) (m made : ℕ) (masks masks′ guesses : List ℕ) : Type 0 where
+  pub worded : Worded states masks′ m made
+  pub masks-size : length masks′ ≡ length masks
+  pub guesses-size : length guesses ≡ 4096

@@ -9,7 +9,7 @@ ghost use Rattle.distances.specs.Area.{Weighed};
 ghost use Rattle.links.specs.Marks.{marked};
 ghost use Rattle.search.specs.Search.{Inside};
 ghost use Rattle.search.specs.Swept.{Gives, Swept};
-ghost use Rattle.sweep.specs.Candidate.{Candidate, WithFirst, AtCentre, Everywhere, Ready};
+ghost use Rattle.sweep.specs.Candidate.{Candidate, WithFirst, AtCentre, Everywhere, Ready, Kept};
 use known::alike;
 use medians::medians;
 use search::Search;
@@ -45,21 +45,24 @@ fn visit(
 }
 
 // The triplets of type c and two types linked with it, of which a is the lower one. Where the two are linked with each other and a
-// is below c, the triplet is met at type a.
+// is below c, the triplet is met at type a. One whose median vectors are all known to be made is not visited.
 fn with_first(
     states: &[u8],
     area: &[u16],
     weights: &[u16],
     next: &[u16],
+    masks: &mut [u64],
+    hints: &[u64],
     found: &mut [u8],
     guesses: &mut [u8],
+    m: usize,
     n: usize,
     search: Search,
     c: usize,
     a: usize,
 ) -> Search
-    requires { ⌜ Ready (now states) (now area) (now weights) (now next) (now found) (now guesses) n search × (c < n) × (a < n) × (marked (now area) c a ≡ true) ⌝ }
-    ensures { λ r. ⌜ (length (now (guesses .exit)) ≡ 4096)
+    requires { ⌜ Ready (now states) (now area) (now weights) (now next) (now masks) (now found) (now guesses) m n search × (c < n) × (a < n) × (marked (now area) c a ≡ true) ⌝ }
+    ensures { λ r. ⌜ Kept (now (states .entry)) m (search .made) (now (masks .entry)) (now (masks .exit)) (now (guesses .exit))
         × Swept (WithFirst (now (weights .entry)) (now (states .entry)) (now (area .entry)) n (search .made) c a n)
         (Candidate (now (weights .entry)) (now (states .entry)) (now (area .entry)) n (search .made)) (now (found .entry)) search (now (found .exit)) r ⌝ }
 {
@@ -69,7 +72,9 @@ fn with_first(
         if c < a || area[128 * b + a] != 1 {
             let t = in_order(c, a, b);
             if can_matter(area, t, now.below) {
-                now = visit(states, weights, found, guesses, now, t);
+                if !settled::settled(states, masks, hints, m, now.made, t) {
+                    now = visit(states, weights, found, guesses, now, t);
+                }
             }
         }
         b = next[129 * c + b + 1] as usize;
@@ -83,21 +88,38 @@ fn at_centre(
     area: &[u16],
     weights: &[u16],
     next: &[u16],
+    masks: &mut [u64],
+    hints: &[u64],
     found: &mut [u8],
     guesses: &mut [u8],
+    m: usize,
     n: usize,
     search: Search,
     c: usize,
 ) -> Search
-    requires { ⌜ Ready (now states) (now area) (now weights) (now next) (now found) (now guesses) n search × (c < n) ⌝ }
-    ensures { λ r. ⌜ (length (now (guesses .exit)) ≡ 4096)
+    requires { ⌜ Ready (now states) (now area) (now weights) (now next) (now masks) (now found) (now guesses) m n search × (c < n) ⌝ }
+    ensures { λ r. ⌜ Kept (now (states .entry)) m (search .made) (now (masks .entry)) (now (masks .exit)) (now (guesses .exit))
         × Swept (AtCentre (now (weights .entry)) (now (states .entry)) (now (area .entry)) n (search .made) c n)
         (Candidate (now (weights .entry)) (now (states .entry)) (now (area .entry)) n (search .made)) (now (found .entry)) search (now (found .exit)) r ⌝ }
 {
     let mut now = search;
     let mut a = next[129 * c] as usize;
     while a < n {
-        now = with_first(states, area, weights, next, found, guesses, n, now, c, a);
+        now = with_first(
+            states,
+            area,
+            weights,
+            next,
+            masks,
+            hints,
+            found,
+            guesses,
+            m,
+            n,
+            now,
+            c,
+            a,
+        );
         a = next[129 * c + a + 1] as usize;
     }
     now
@@ -109,20 +131,36 @@ pub fn sweep(
     area: &[u16],
     weights: &[u16],
     next: &[u16],
+    masks: &mut [u64],
+    hints: &[u64],
     found: &mut [u8],
     guesses: &mut [u8],
+    m: usize,
     n: usize,
     search: Search,
 ) -> Search
-    requires { ⌜ Ready (now states) (now area) (now weights) (now next) (now found) (now guesses) n search ⌝ }
-    ensures { λ r. ⌜ (length (now (guesses .exit)) ≡ 4096)
+    requires { ⌜ Ready (now states) (now area) (now weights) (now next) (now masks) (now found) (now guesses) m n search ⌝ }
+    ensures { λ r. ⌜ Kept (now (states .entry)) m (search .made) (now (masks .entry)) (now (masks .exit)) (now (guesses .exit))
         × Swept (Everywhere (now (weights .entry)) (now (states .entry)) (now (area .entry)) n (search .made) n)
         (Candidate (now (weights .entry)) (now (states .entry)) (now (area .entry)) n (search .made)) (now (found .entry)) search (now (found .exit)) r ⌝ }
 {
     let mut now = search;
     let mut c = 0;
     while c < n {
-        now = at_centre(states, area, weights, next, found, guesses, n, now, c);
+        now = at_centre(
+            states,
+            area,
+            weights,
+            next,
+            masks,
+            hints,
+            found,
+            guesses,
+            m,
+            n,
+            now,
+            c,
+        );
         c += 1;
     }
     now

@@ -2,26 +2,26 @@
 use mathlib.Core.Path.{_≡_, sym, _∙_}
 use Prim.Native.Nat.{_+_, _*_, _-_}
 use native.Mathlib.Omega.{arith}
-use lib.ListN.{length, getD}
+use lib.ListN.{getD}
 use Rattle.triplets.specs.Followers.{Follower}
 use Rattle.search.specs.Swept.{Swept}
-use Rattle.sweep.specs.Candidate.{Candidate, AtCentre}
-use Rattle.sweep.proofs.Walk.{Walk, walk-first, walk-next, follower-first, follower-next, still-ready, centre-none, centre-more}
+use Rattle.sweep.specs.Candidate.{Candidate, AtCentre, Kept}
+use Rattle.sweep.proofs.Walk.{Walk, walk-first, walk-next, follower-first, follower-next, kept-then, kept-none, still-ready, centre-none, centre-more}
 use Rattle.sweep.proofs.at_centre.Statement.{statement}
 use Rattle.sweep.proofs.at_centre.Tie as tie
 
 abbrev Inv-loop : tie.InvT-loop
-Inv-loop states area weights next found₀ guesses₀ n c now₀ a₀ found guesses now a =
+Inv-loop states area weights next masks₀ hints found₀ guesses₀ m n c now₀ a₀ masks found guesses now a =
     Walk area n c 0 a
-    × (length guesses ≡ 4096)
+    × Kept states m (now₀ .made) masks₀ masks guesses
     × Swept (AtCentre weights states area n (now₀ .made) c a) (Candidate weights states area n (now₀ .made)) found₀ now₀ found now
 
 abbrev μ-loop : tie.MeasureT-loop
-μ-loop states area weights next found₀ guesses₀ n c now₀ a₀ found guesses now a = n - a
+μ-loop states area weights next masks₀ hints found₀ guesses₀ m n c now₀ a₀ masks found guesses now a = n - a
 
 -- The function's start, and the follower of the next type.
 abbrev start : tie.At-loop Inv-loop μ-loop → tie.Start Inv-loop μ-loop
-start c = c .before .before .before .before .before .before .before .before
+start c = c .before .before .before .before .before .before .before .before .before .before
 
 follower : (c : tie.In-loop Inv-loop μ-loop) →
     let s = start (c .before) .args in
@@ -39,18 +39,18 @@ shared-slice-read-a : tie.Need-shared-slice-read-a Inv-loop μ-loop
 shared-slice-read-a c = omega arith
 
 cast-a : tie.Need-cast-a Inv-loop μ-loop
-cast-a c = let s = c .before .before .before .before .before .before .before .args in omega (arith, c .shared-slice-known5 .given (129 * s .c))
+cast-a c = let s = c .before .before .before .before .before .before .before .before .before .args in omega (arith, c .shared-slice-known6 .given (129 * s .c))
 
 loop-holds : tie.Need-loop-holds Inv-loop μ-loop
 loop-holds c =
-    let s = c .before .before .before .before .before .before .before in
+    let s = c .before .before .before .before .before .before .before .before .before in
     let ready = s .pre .0 in
     let f = follower-first (ready .follows) (s .args .c) (s .pre .1) in
-    (walk-first f, ready .guesses-size, centre-none ready (s .args .c) f)
+    (walk-first f, kept-none ready, centre-none ready (s .args .c) f)
 
 with-first-requires : tie.Need-with-first-requires Inv-loop μ-loop
 with-first-requires c κs =
-    let i = c .before .before in
+    let i = c .before .before .before in
     let l = i .before .loop in
     let s = start (i .before) in
     let h = i .loop-test .taken in
@@ -69,32 +69,35 @@ mul-a-4 : tie.Need-mul-a-4 Inv-loop μ-loop
 mul-a-4 c = omega arith
 
 shared-slice-read-a-2 : tie.Need-shared-slice-read-a-2 Inv-loop μ-loop
-shared-slice-read-a-2 c = omega arith
+shared-slice-read-a-2 c = omega (arith, start (c .before .before .before .before .before .before .before .before .before .before .before .before) .pre .0 .follows .size)
 
 cast-a-2 : tie.Need-cast-a-2 Inv-loop μ-loop
 cast-a-2 c =
-    let l = c .before .before .before .before .before .before .before .before .before .loop in
-    let s = start (c .before .before .before .before .before .before .before .before .before) .args in
-    omega (arith, c .shared-slice-known6 .given (129 * s .c + l .a + 1))
+    let l = c .before .before .before .before .before .before .before .before .before .before .before .before in
+    let s = start l .args in
+    omega (arith, c .shared-slice-known7 .given (129 * s .c + l .loop .a + 1))
 
 loop-less : tie.Need-loop-less Inv-loop μ-loop
-loop-less c = let f = follower (c .before .before .before .before .before .before .before .before) in omega (arith, f .from, f .within)
+loop-less c = let f = follower (c .before .before .before .before .before .before .before .before .before .before .before) in omega (arith, f .from, f .within)
 
 loop-again : tie.Need-loop-again Inv-loop μ-loop
 loop-again c =
-    let called = c .before .before .before .before .before in
-    let i = called .before .before .before in
+    let called = c .before .before .before .before .before .before .before in
+    let i = called .before .before .before .before in
     let l = i .before .loop in
     let s = start (i .before) in
     let f = follower i in
     let e = called .with-first .ensures in
-    (walk-next (l .inv .0) f, e .0, centre-more (s .pre .0) (s .args .c) (l .a) f (l .inv .2) (e .1))
+    (walk-next (l .inv .0) f, kept-then (l .inv .2 .made-stays) (l .inv .1) (e .0), centre-more (s .pre .0) (s .args .c) (l .a) f (l .inv .2) (e .1))
 
 same-length : tie.Need-same-length Inv-loop μ-loop
-same-length c = c .before .loop .inv .2 .size
+same-length c = c .before .loop .inv .1 .masks-size
 
 same-length-2 : tie.Need-same-length-2 Inv-loop μ-loop
-same-length-2 c = c .before .loop .inv .1 ∙ sym (start (c .before) .pre .0 .guesses-size)
+same-length-2 c = c .before .loop .inv .2 .size
+
+same-length-3 : tie.Need-same-length-3 Inv-loop μ-loop
+same-length-3 c = c .before .loop .inv .1 .guesses-size ∙ sym (start (c .before) .pre .0 .guesses-size)
 
 returns : tie.Need-returns Inv-loop μ-loop
 returns c =
@@ -124,4 +127,5 @@ at-centre-spec =
     loop-again
     same-length
     same-length-2
+    same-length-3
     returns)

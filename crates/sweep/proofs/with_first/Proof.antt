@@ -1,5 +1,5 @@
 -- `sweep::with_first` meets its contract: what the triplets with the types passed give is swept. Each next type's triplet is met
--- elsewhere, cannot matter, or is visited.
+-- elsewhere, cannot matter, is settled, or is visited.
 use mathlib.Core.Path.{_≡_, sym, _∙_}
 use mathlib.Core.Logic.{⊎-elim}
 use Prim.Native.Nat.{_+_, _*_, _-_}
@@ -10,29 +10,29 @@ use Rattle.triplets.specs.Followers.{Follower}
 use Rattle.triplets.specs.Triplet.{inOrder}
 use Rattle.triplets.specs.declared.Triplet.{Triplet}
 use Rattle.triplets.proofs.Order.{mark-read}
-use Rattle.sweep.specs.Candidate.{IsTriplet, Candidate, WithFirst, Ready}
+use Rattle.sweep.specs.Candidate.{IsTriplet, Candidate, WithFirst, Ready, Kept}
 use Rattle.sweep.proofs.Seated.{met-triplet}
-use Rattle.sweep.proofs.Walk.{Walk, walk-first, walk-next, follower-next, still-ready, ready-inside, first-none, first-skipped, first-dropped, first-visited}
+use Rattle.sweep.proofs.Walk.{Walk, walk-first, walk-next, follower-next, kept-words, kept-guesses, kept-none, still-ready, ready-inside, first-none, first-skipped, first-dropped, first-settled, first-visited}
 use borrow.Author.Tests.{not-false}
 use Rattle.sweep.proofs.with_first.Statement.{statement}
 use Rattle.sweep.proofs.with_first.Tie as tie
 
 abbrev Inv-loop : tie.InvT-loop
-Inv-loop states area weights next found₀ guesses₀ n c a now₀ b₀ found guesses now b =
+Inv-loop states area weights next masks₀ hints found₀ guesses₀ m n c a now₀ b₀ masks found guesses now b =
     Walk area n c (a + 1) b
-    × (length guesses ≡ 4096)
+    × Kept states m (now₀ .made) masks₀ masks guesses
     × Swept (WithFirst weights states area n (now₀ .made) c a b) (Candidate weights states area n (now₀ .made)) found₀ now₀ found now
 
 abbrev μ-loop : tie.MeasureT-loop
-μ-loop states area weights next found₀ guesses₀ n c a now₀ b₀ found guesses now b = n - b
+μ-loop states area weights next masks₀ hints found₀ guesses₀ m n c a now₀ b₀ masks found guesses now b = n - b
 
 -- The function's start, what a search needs now, the next type's follower, and the triplet met.
 abbrev start : tie.At-loop Inv-loop μ-loop → tie.Start Inv-loop μ-loop
-start c = c .before .before .before .before .before .before .before .before
+start c = c .before .before .before .before .before .before .before .before .before .before
 
 ready : (c : tie.At-loop Inv-loop μ-loop) →
     let s = start c .args in
-    Ready (s .states .now) (s .area .now) (s .weights .now) (s .next .now) (c .loop .found) (c .loop .guesses) (s .n) (c .loop .now)
+    Ready (s .states .now) (s .area .now) (s .weights .now) (s .next .now) (c .loop .masks) (c .loop .found) (c .loop .guesses) (s .m) (s .n) (c .loop .now)
 ready c = still-ready (start c .pre .0) (c .loop .inv .2) (c .loop .inv .1)
 
 follower : (c : tie.In-loop Inv-loop μ-loop) →
@@ -65,14 +65,14 @@ shared-slice-read-b : tie.Need-shared-slice-read-b Inv-loop μ-loop
 shared-slice-read-b c = omega arith
 
 cast-b : tie.Need-cast-b Inv-loop μ-loop
-cast-b c = let s = c .before .before .before .before .before .before .before .args in omega (arith, c .shared-slice-known5 .given (129 * s .c + s .a + 1))
+cast-b c = let s = c .before .before .before .before .before .before .before .before .before .args in omega (arith, c .shared-slice-known6 .given (129 * s .c + s .a + 1))
 
 loop-holds : tie.Need-loop-holds Inv-loop μ-loop
 loop-holds c =
-    let s = c .before .before .before .before .before .before .before in
+    let s = c .before .before .before .before .before .before .before .before .before in
     let ready = s .pre .0 in
     let f = follower-next (ready .follows) (s .args .c) (s .pre .1) (s .args .a) (s .pre .2) in
-    (walk-first f, ready .guesses-size, first-none ready (s .args .c) (s .args .a) f)
+    (walk-first f, kept-none ready, first-none ready (s .args .c) (s .args .a) f)
 
 mul-if2 : tie.Need-mul-if2 Inv-loop μ-loop
 mul-if2 c = omega arith
@@ -95,9 +95,17 @@ can-matter-requires c κs =
     let inside = ready-inside (ready (i .before)) (triplet i (c .in-order .result) (c .in-order .ensures)) in
     omega (arith, inside, ready (i .before))
 
+settled-requires : tie.Need-settled-requires Inv-loop μ-loop
+settled-requires c κs =
+    let o = c .before .before .before in
+    let i = o .before .before in
+    let r = ready (i .before) in
+    let inside = ready-inside r (triplet i (o .in-order .result) (o .in-order .ensures)) in
+    (r .worded .narrow, r .worded .cached, omega (arith, r .room), r .lie, inside .u-made, inside .v-made, inside .w-made)
+
 visit-requires : tie.Need-visit-requires Inv-loop μ-loop
 visit-requires c κs =
-    let o = c .before .before .before .before in
+    let o = c .before .before .before .before .before .before .before .before .before in
     let i = o .before .before in
     let r = ready (i .before) in
     (r .weighed, ready-inside r (triplet i (o .in-order .result) (o .in-order .ensures)), r .found-size, r .guesses-size)
@@ -121,7 +129,7 @@ cast-b-2 : tie.Need-cast-b-2 Inv-loop μ-loop
 cast-b-2 c =
     let i = c .before .before in
     let s = start (i .before) .args in
-    omega (arith, c .shared-slice-known7 .given (129 * s .c + i .before .loop .b + 1))
+    omega (arith, c .shared-slice-known8 .given (129 * s .c + i .before .loop .b + 1))
 
 loop-less : tie.Need-loop-less Inv-loop μ-loop
 loop-less c = let f = follower (c .before .before) in omega (arith, f .from, f .within)
@@ -132,22 +140,33 @@ loop-again c =
     let l = i .before .loop in
     let s = start (i .before) in
     let first = s .pre .0 in
-    let f = follower i in (
+    let f = follower i in
+    let stays = l .inv .2 .made-stays in (
       walk-next (l .inv .0) f,
-      ⊎-elim (λ w. rw (w .12) (w .6 .ensures .0)) (⊎-elim (λ w. rw (w .5) (l .inv .1)) (λ w. rw (w .4) (l .inv .1))) (c .before .if1 .came),
       ⊎-elim
-          (λ w. rw (w .11, w .13) (first-visited first (s .args .c) (s .args .a) f (l .inv .2) (w .1 .ensures) (triplet i _ (w .1 .ensures)) (w .6 .ensures .1)))
+          (λ w. rw (w .16, w .18) (kept-guesses (kept-words stays (l .inv .1) (w .5 .ensures .1) (w .5 .ensures .2)) (w .11 .ensures .0)))
           (⊎-elim
-          (λ w. rw (w .4, w .6) (first-dropped first (s .args .c) (s .args .a) f (l .inv .2) (w .1 .ensures) (triplet i _ (w .1 .ensures)) (sym (w .2 .ensures) ∙ w .3 .left)))
-          (λ w. rw (w .3, w .5) (first-skipped first (s .args .c) (s .args .a) f (l .inv .2) (w .0 .left) (mark-read (s .args .area .now) (s .args .a) (l .b) (omega (arith, l .inv .0 .on)) ∙ not-false _ (w .2 .left)))))
+          (λ w. rw (w .9, w .11) (kept-words stays (l .inv .1) (w .5 .ensures .1) (w .5 .ensures .2)))
+          (⊎-elim (λ w. rw (w .4, w .6) (l .inv .1)) (λ w. rw (w .3, w .5) (l .inv .1))))
+          (c .before .if1 .came),
+      ⊎-elim
+          (λ w. rw (w .17, w .19) (first-visited first (s .args .c) (s .args .a) f (l .inv .2) (w .1 .ensures) (triplet i _ (w .1 .ensures)) (w .11 .ensures .1)))
+          (⊎-elim
+          (λ w. rw (w .10, w .12) (first-settled first (s .args .c) (s .args .a) f (l .inv .2) (w .1 .ensures) (triplet i _ (w .1 .ensures)) (w .5 .ensures .0 (not-false _ (w .8 .left)))))
+          (⊎-elim
+          (λ w. rw (w .5, w .7) (first-dropped first (s .args .c) (s .args .a) f (l .inv .2) (w .1 .ensures) (triplet i _ (w .1 .ensures)) (sym (w .2 .ensures) ∙ w .3 .left)))
+          (λ w. rw (w .4, w .6) (first-skipped first (s .args .c) (s .args .a) f (l .inv .2) (w .0 .left) (mark-read (s .args .area .now) (s .args .a) (l .b) (omega (arith, l .inv .0 .on)) ∙ not-false _ (w .2 .left))))))
           (c .before .if1 .came),
     )
 
 same-length : tie.Need-same-length Inv-loop μ-loop
-same-length c = c .before .loop .inv .2 .size
+same-length c = c .before .loop .inv .1 .masks-size
 
 same-length-2 : tie.Need-same-length-2 Inv-loop μ-loop
-same-length-2 c = c .before .loop .inv .1 ∙ sym (start (c .before) .pre .0 .guesses-size)
+same-length-2 c = c .before .loop .inv .2 .size
+
+same-length-3 : tie.Need-same-length-3 Inv-loop μ-loop
+same-length-3 c = c .before .loop .inv .1 .guesses-size ∙ sym (start (c .before) .pre .0 .guesses-size)
 
 returns : tie.Need-returns Inv-loop μ-loop
 returns c =
@@ -174,6 +193,7 @@ with-first-spec =
     shared-slice-read-if2
     in-order-requires
     can-matter-requires
+    settled-requires
     visit-requires
     mul-b-3
     add-b-3
@@ -185,4 +205,5 @@ with-first-spec =
     loop-again
     same-length
     same-length-2
+    same-length-3
     returns)
