@@ -7,7 +7,7 @@ use Rattle.rules.specs.Job.{Bytes}
 use Rattle.types.specs.State.{storedAt}
 use Rattle.known.specs.Known.{slotOf, guessesOf}
 
-pub guesses-none : (states : Bytes) → replicate 4096 0 ≡ guessesOf states 0
+pub guesses-none : (states : Bytes) → replicate 4096 256 ≡ guessesOf states 0
 unfolding guessesOf
 guesses-none states = refl
 

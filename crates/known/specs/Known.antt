@@ -31,5 +31,5 @@ rightGuess states made found count guesses row =
 
 -- The guesses when each of the rows made has guessed its own number, one after the other.
 unfoldable pub guessesOf : Bytes → ℕ → List ℕ
-guessesOf states zero = replicate 4096 0
+guessesOf states zero = replicate 4096 256
 guessesOf states (suc i) = set (guessesOf states i) (slotOf (storedAt states i)) i

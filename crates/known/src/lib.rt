@@ -48,7 +48,7 @@ pub fn guessed(
     made: usize,
     found: &[u8],
     count: usize,
-    guesses: &[u8],
+    guesses: &[u16],
     row: &[u8; 64],
 ) -> bool
     requires { ⌜ (64 * made ≤ length (now states)) × (64 * count ≤ length (now found)) × (made + count ≤ 128) × (length (now guesses) ≡ 4096) ⌝ }
@@ -71,7 +71,7 @@ pub fn known(
     made: usize,
     found: &[u8],
     count: usize,
-    guesses: &mut [u8],
+    guesses: &mut [u16],
     row: &[u8; 64],
 ) -> bool
     requires { ⌜ (64 * made ≤ length (now states)) × (64 * count ≤ length (now found)) × (made + count ≤ 128) × (length (now guesses) ≡ 4096) ⌝ }
@@ -81,24 +81,24 @@ pub fn known(
     let at = slot(row);
     let i = find_row(states, made, row);
     if i < made {
-        guesses[at] = i as u8;
+        guesses[at] = i as u16;
         return true;
     }
     let k = find_row(found, count, row);
-    guesses[at] = (made + k) as u8;
+    guesses[at] = (made + k) as u16;
     k < count
 }
 
 // A table in which every row made guesses its own number.
-pub fn guess_all(states: &[u8], made: usize) -> [u8; 4096]
+pub fn guess_all(states: &[u8], made: usize) -> [u16; 4096]
     requires { ⌜ (made ≤ 128) × (64 * made ≤ length (now states)) ⌝ }
     ensures { λ r. ⌜ r ≡ guessesOf (now (states .entry)) made ⌝ }
 {
-    let mut guesses = [0u8; 4096];
+    let mut guesses = [256u16; 4096];
     let mut i = 0;
     while i < made {
         let row = row_at(states, i);
-        guesses[slot(&row)] = i as u8;
+        guesses[slot(&row)] = i as u16;
         i += 1;
     }
     guesses

@@ -97,7 +97,7 @@ pub fn consider(
     states: &[u8],
     weights: &[u16],
     found: &mut [u8],
-    guesses: &mut [u8],
+    guesses: &mut [u16],
     search: Search,
     t: Triplet,
     row: &[u8; 64],

@@ -27,6 +27,9 @@ cast-guesses c = search needs
 slot-requires : tie.Need-slot-requires Inv-loop μ-loop
 slot-requires c κs = search needs
 
+mul-guesses : tie.Need-mul-guesses Inv-loop μ-loop
+mul-guesses c = omega (arith, c .slot .ensures, slot-few (c .before .before .row-at .result))
+
 array-write-guesses : tie.Need-array-write-guesses Inv-loop μ-loop
 array-write-guesses c = rw (c .slot .ensures) (slot-few _)
 
@@ -58,6 +61,7 @@ guess-all-spec =
     row-at-requires
     cast-guesses
     slot-requires
+    mul-guesses
     array-write-guesses
     add-i
     loop-less

@@ -9,6 +9,9 @@ use Rattle.known.proofs.guessed.Tie as tie
 slot-requires : tie.Need-slot-requires
 slot-requires c κs = search needs
 
+mul-guess : tie.Need-mul-guess
+mul-guess c = omega (arith, c .slot .ensures, slot-few (c .before .before .before .before .args .row .now))
+
 shared-slice-read-guess : tie.Need-shared-slice-read-guess
 shared-slice-read-guess c = omega (arith, c .before .slot .ensures, slot-few (c .before .before .before .before .before .args .row .now))
 
@@ -82,6 +85,7 @@ guessed-spec =
     tie.close
     (tie.spec
     slot-requires
+    mul-guess
     shared-slice-read-guess
     cast-guess
     mul-alike

@@ -16,6 +16,10 @@ find-row-requires c κs = search needs
 cast-guesses : tie.Need-cast-guesses
 cast-guesses c = search needs
 
+mul-guesses : tie.Need-mul-guesses
+mul-guesses c =
+    let s = c .before .before in omega (arith, s .slot .ensures, slot-few (s .before .before .before .before .args .row .now))
+
 slice-write-guesses : tie.Need-slice-write-guesses
 slice-write-guesses c =
     let s = c .before .before in omega (arith, s .slot .ensures, slot-few (s .before .before .before .before .args .row .now))
@@ -43,6 +47,10 @@ cast-guesses-2 c =
     let a = c .before .before .before .before .before .before .before .args in
     omega (arith, c .find-row2 .ensures, first-few (a .found .now) (a .count) (a .row .now))
 
+mul-guesses-2 : tie.Need-mul-guesses-2
+mul-guesses-2 c =
+    let s = c .before .before .before in omega (arith, s .slot .ensures, slot-few (s .before .before .before .before .args .row .now))
+
 slice-write-guesses-2 : tie.Need-slice-write-guesses-2
 slice-write-guesses-2 c =
     let s = c .before .before .before in omega (arith, s .slot .ensures, slot-few (s .before .before .before .before .args .row .now))
@@ -64,12 +72,14 @@ known-spec =
     slot-requires
     find-row-requires
     cast-guesses
+    mul-guesses
     slice-write-guesses
     same-length
     returns
     find-row-requires-2
     add-guesses
     cast-guesses-2
+    mul-guesses-2
     slice-write-guesses-2
     same-length-2
     returns-2)
