@@ -51,12 +51,15 @@ fn choose(
 {
     let mut guesses = guess_all(states, made);
     let mut rows = [0u8; 8192];
+    // nothing is known of the costs at a type yet
+    let mut floors = [0usize; 128];
     let any = Search::for_lambda(made);
     let least = sweep(
         states,
         area,
         weights,
         next,
+        &mut floors,
         masks,
         hints,
         &mut rows,
@@ -78,6 +81,7 @@ fn choose(
         area,
         weights,
         next,
+        &mut floors,
         masks,
         hints,
         &mut rows,

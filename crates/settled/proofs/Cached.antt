@@ -1,11 +1,13 @@
--- Laws of Cached and Room: nothing is known at first, a word that is kept is right, and one more is kept.
+-- Laws of Mixed, Cached and Room: a row is mixed of itself, nothing is known at first, a word that is kept is right, and one more is kept.
 use mathlib.Core.Path.{_≡_, refl, sym, _∙_}
 use mathlib.Core.Logic.{_≢_, inl, inr, ⊎-elim}
+use mathlib.Core.Bool.{false}
 use mathlib.Core.List.{List, [], _∷_}
 use Prim.Native.Nat.{ℕ, zero, suc, _+_, _*_, _<_}
 use native.Mathlib.Decide.{ℕ-discrete}
 use native.Mathlib.Nat.{not-suc-le-zero}
 use native.Mathlib.Omega.{arith}
+use lib.Bits.{and-zero-r}
 use lib.Dec.{eqb}
 use lib.ListN.{length, getD, set, replicate, length-set}
 use lib.Seq.{getD-set-same, getD-set-other}
@@ -13,8 +15,8 @@ use borrow.Author.Tests.{eqb-true, eq-eqb}
 use Rattle.graph.proofs.Below.{same-tests}
 use Rattle.rules.specs.Job.{Bytes}
 use Rattle.settled.specs.Words.{differ, apartIn, none, Cached}
-use Rattle.settled.specs.Settled.{Room}
-use Rattle.settled.proofs.Words.{word-ext}
+use Rattle.settled.specs.Settled.{Mixed, Room}
+use Rattle.settled.proofs.Words.{word-none, word-ext}
 
 all-none : (k n : ℕ) → getD (replicate k none) n none ≡ none
 all-none zero n = refl
@@ -38,6 +40,15 @@ eqb-sym a b =
 
 pub apart-sym : (states : Bytes) (m i j : ℕ) → apartIn states m i j ≡ apartIn states m j i
 apart-sym states m i j = word-ext (differ states i j) (differ states j i) (λ c. rw (eqb-sym (getD states (64 * i + c) 0) (getD states (64 * j + c) 0))) m 0
+
+-- A row does not differ from itself: it is what has its own states in all characters but none.
+apart-self : (states : Bytes) (m i : ℕ) → apartIn states m i i ≡ 0
+apart-self states m i =
+    word-ext (differ states i i) (λ c. false) (λ c. rw (eq-eqb (getD states (64 * i + c) 0) (getD states (64 * i + c) 0) refl)) m 0 ∙ word-none m 0
+
+pub mixed-none : (states : Bytes) (m made u v k : ℕ) → u < made → k ≡ 0 → Mixed states m made u v k
+mixed-none states m made u v k h e =
+    record { row = u; is-made = h; with-first = apart-self states m u ∙ sym e; with-second = rw e (and-zero-r (apartIn states m v u)) }
 
 module _ (states : Bytes) (m made : ℕ) (masks : List ℕ) (i j : ℕ) (hi : i < made) (hj : j < made) where
   pub kept-right : Room states m made masks → getD masks (128 * i + j) 0 ≢ none → getD masks (128 * i + j) 0 ≡ apartIn states m i j

@@ -215,6 +215,10 @@ fn is_made(
     ensures { λ r. ⌜ (r ≡ true → Mixed (now (states .entry)) m made u v k) × Room (now (states .entry)) m made (now (masks .exit))
         × (length (now (masks .exit)) ≡ length (now (masks .entry))) ⌝ }
 {
+    if k == 0 {
+        // row u itself
+        return true;
+    }
     let x = guess(hints, u, v, k);
     if made <= x {
         return false;

@@ -1,8 +1,6 @@
--- What a triplet of stored types gives: its cost, which is small, and that a triplet that cannot matter gives nothing of a cost that
--- matters.
+-- What a triplet of stored types gives: its cost, which is small, and no less than the distances tell.
 use mathlib.Core.Path.{_≡_, sym, _∙_}
 use mathlib.Core.Logic.{_≢_, _⊎_, ⊎-elim, ⊎-map}
-use mathlib.Core.Bool.{false}
 use mathlib.Core.List.{List}
 use Prim.Native.Nat.{ℕ, _*_, _≤_, _<_}
 use native.Mathlib.Omega.{arith}
@@ -15,9 +13,9 @@ use Rattle.types.specs.State.{storedAt}
 use Rattle.types.proofs.State.{length-storedAt}
 use Rattle.distances.specs.Area.{cellAt, Weighed}
 use Rattle.medians.proofs.Stored.{cost-bound}
-use Rattle.triplets.specs.Triplet.{canMatter}
+use Rattle.triplets.specs.Triplet.{leastCost}
 use Rattle.triplets.specs.declared.Triplet.{Triplet}
-use Rattle.triplets.proofs.Order.{Between, can-matter-not}
+use Rattle.triplets.proofs.Order.{Between, least-cost-is}
 use Rattle.search.specs.Swept.{Gives}
 use Rattle.search.proofs.Considering.{gives-cost}
 use Rattle.sweep.specs.Candidate.{Faithful}
@@ -68,11 +66,11 @@ module _ {ws : List ℕ} {states : Bytes} {made : ℕ} {t : Triplet} (weighed : 
           (λ e. not-new (t .w) (omega arith) (middle-w ws u v w lu lv lw telling (omega arith))))
           b
 
-      -- A triplet that cannot matter gives nothing of a cost below the bound.
-      pub dropped : (below : ℕ) → canMatter area t below ≡ false → below ≤ cost
-      dropped below e =
+      -- What a triplet gives costs no less than its distances tell.
+      pub no-less : leastCost area t ≤ cost
+      no-less =
           ⊎-elim
-          (λ far. omega (
+          (λ half. omega (
             arith,
             gives-cost weighed lie (omega arith) (omega arith) inside g,
             half-way ws (storedAt states (t .u)) (storedAt states (t .v)) (storedAt states (t .w)) (long (t .u) (omega arith)),
@@ -81,4 +79,4 @@ module _ {ws : List ℕ} {states : Bytes} {made : ℕ} {t : Triplet} (weighed : 
             faithful .measured (t .v) (t .w) (omega arith) current,
           ))
           (λ b. absurd (not-between b))
-          (can-matter-not area t below e)
+          (least-cost-is area t)

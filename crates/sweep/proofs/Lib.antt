@@ -1,4 +1,5 @@
 pub mod Visiting
 pub mod Dropped
+pub mod Floors
 pub mod Walk
 pub mod Seated

@@ -4,23 +4,24 @@ use mathlib.Core.Path.{_≡_, refl, sym, _∙_}
 use mathlib.Core.Logic.{_⊎_, inl, inr, ⊎-elim}
 use mathlib.Core.Bool.{true, false, false≢true}
 use mathlib.Core.List.{List}
-use Prim.Native.Nat.{ℕ, _+_, _*_, _≤_, _<_}
+use Prim.Native.Nat.{ℕ, _+_, _*_, _≤_, _<_, min}
 use native.Mathlib.Decide.{decLt}
 use native.Mathlib.Omega.{arith}
 use lib.ListN.{length, getD}
 use Rattle.rules.specs.Job.{Bytes}
 use Rattle.links.specs.Marks.{marked}
 use Rattle.triplets.specs.Followers.{Follower, Followers}
-use Rattle.triplets.specs.Triplet.{inOrder, canMatter}
+use Rattle.triplets.specs.Triplet.{inOrder}
 use Rattle.triplets.specs.declared.Triplet.{Triplet}
 use Rattle.settled.specs.Words.{Cached}
-use Rattle.settled.specs.Settled.{Settled}
 use Rattle.search.specs.declared.Search.{Search}
 use Rattle.search.specs.Search.{Inside}
 use Rattle.search.specs.Swept.{Gives, Swept}
 use Rattle.search.proofs.Sweeping.{Rows, swept-none, swept-more, swept-as, swept-at}
 use Rattle.sweep.specs.Candidate.{IsTriplet, Candidate, Faithful, WithFirst, AtCentre, Everywhere, Ready, Kept}
-use Rattle.sweep.proofs.Dropped.{dropped}
+use Rattle.sweep.specs.Floors.{Outlook, Floored, Floors}
+use Rattle.sweep.proofs.Dropped.{no-less}
+use Rattle.sweep.proofs.Floors.{floored-none, floored-more}
 
 -- A walk has come to a type that is linked with c, from `start` on, or to n.
 pub record Walk (area : List ℕ) (n c start at : ℕ) : Type 0 where
@@ -160,11 +161,24 @@ module _ {states : Bytes} {area ws next masks₀ : List ℕ} {found₀ guesses�
       Swept (Everywhere ws states area n (s₀ .made) (c + 1)) (Given (s₀ .made)) found₀ s₀ found′ s′
   everywhere-more c a b = one-more (λ made. AtCentre ws states area n made c n) a b (λ x cost. which-centre)
 
+  -- A type is passed over where its floor does not matter.
+  pub everywhere-passed : (c : ℕ) {found : Bytes} {s : Search} {floors : List ℕ} → c < n → Floors ws states area n (s₀ .made) floors →
+      s .below ≤ getD floors c 0 → Swept (Everywhere ws states area n (s₀ .made) c) (Given (s₀ .made)) found₀ s₀ found s →
+      Swept (Everywhere ws states area n (s₀ .made) (c + 1)) (Given (s₀ .made)) found₀ s₀ found s
+  everywhere-passed c h floors high a =
+      everywhere-more c a (swept-none (λ x cost k. inl (omega (arith, floors .each c h x cost (rw (a .made-stays) at k)))) (a .room))
+
   -- The walk at a type c.
   module _ (c : ℕ) where
+    none-centre : {at : ℕ} → Follower area n c 0 at → (x : Bytes) (cost : ℕ) → AtCentre ws states area n (s₀ .made) c at x cost → ⊥
+    none-centre f x cost k = omega (arith, not-passed f (k .a) (k .linked) (k .within))
+
     pub centre-none : {at : ℕ} → Follower area n c 0 at →
         Swept (AtCentre ws states area n (s₀ .made) c at) (Given (s₀ .made)) found₀ s₀ found₀ s₀
-    centre-none f = none-asked (λ x cost k. omega (arith, not-passed f (k .a) (k .linked) (k .within)))
+    centre-none f = none-asked (none-centre f)
+
+    pub centre-open : {at low : ℕ} → Follower area n c 0 at → Floored (AtCentre ws states area n (s₀ .made) c at) low low
+    centre-open f = floored-none (none-centre f)
 
     pub centre-more : (a : ℕ) {to : ℕ} {found found′ : Bytes} {s s′ : Search} → Follower area n c (a + 1) to →
         Swept (AtCentre ws states area n (s₀ .made) c a) (Given (s₀ .made)) found₀ s₀ found s →
@@ -172,11 +186,22 @@ module _ {states : Bytes} {area ws next masks₀ : List ℕ} {found₀ guesses�
         Swept (AtCentre ws states area n (s₀ .made) c to) (Given (s₀ .made)) found₀ s₀ found′ s′
     centre-more a f p q = one-more (λ made. WithFirst ws states area n made c a n) p q (λ x cost. which-first f)
 
+    pub centre-lowered : (a : ℕ) {to high low lower : ℕ} {made : ℕ} → made ≡ s₀ .made → Follower area n c (a + 1) to →
+        Floored (AtCentre ws states area n (s₀ .made) c a) high low → Floored (WithFirst ws states area n made c a n) low lower →
+        Floored (AtCentre ws states area n (s₀ .made) c to) high lower
+    centre-lowered a e f p q = floored-more p (rw e at q) (λ x cost. which-first f)
+
     -- The walk with a type a.
     module _ (a : ℕ) where
+      none-first : {at : ℕ} → Follower area n c (a + 1) at → (x : Bytes) (cost : ℕ) → WithFirst ws states area n (s₀ .made) c a at x cost → ⊥
+      none-first f x cost k = omega (arith, k .higher, not-passed f (k .b) (k .linked) (k .within))
+
       pub first-none : {at : ℕ} → Follower area n c (a + 1) at →
           Swept (WithFirst ws states area n (s₀ .made) c a at) (Given (s₀ .made)) found₀ s₀ found₀ s₀
-      first-none f = none-asked (λ x cost k. omega (arith, k .higher, not-passed f (k .b) (k .linked) (k .within)))
+      first-none f = none-asked (none-first f)
+
+      pub first-open : {at low : ℕ} → Follower area n c (a + 1) at → Floored (WithFirst ws states area n (s₀ .made) c a at) low low
+      first-open f = floored-none (none-first f)
 
       -- It comes to a type b, and its triplet is skipped, dropped, settled or visited.
       module _ {b to : ℕ} {found : Bytes} {s : Search} (follows : Follower area n c (b + 1) to)
@@ -187,35 +212,45 @@ module _ {states : Bytes} {area ws next masks₀ : List ℕ} {found₀ guesses�
         first-more q = one-more (λ made. Here ws states area n made c a b) so-far q (λ x cost. which-second follows)
 
         -- It is met at type a.
+        elsewhere : a ≤ c → marked area a b ≡ true → {made : ℕ} {x : Bytes} {cost : ℕ} → Here ws states area n made c a b x cost → ⊥
+        elsewhere h e k = ⊎-elim (λ l. omega arith) (λ f. false≢true (sym f ∙ e)) (k .1)
+
         pub first-skipped : a ≤ c → marked area a b ≡ true →
             Swept (WithFirst ws states area n (s₀ .made) c a to) (Given (s₀ .made)) found₀ s₀ found s
-        first-skipped h e =
-            first-more (swept-none
-            (λ x cost k. ⊎-elim (λ l. absurd (omega arith)) (λ f. absurd (false≢true (sym f ∙ e))) (k .1))
-            (so-far .room))
+        first-skipped h e = first-more (swept-none (λ x cost k. absurd (elsewhere h e k)) (so-far .room))
+
+        pub first-kept : a ≤ c → marked area a b ≡ true → {high low : ℕ} → Floored (WithFirst ws states area n (s₀ .made) c a b) high low →
+            Floored (WithFirst ws states area n (s₀ .made) c a to) high low
+        first-kept h e f = floored-more f (floored-none (λ x cost k. elsewhere h e k)) (λ x cost. which-second follows)
 
         module _ {t : Triplet} (is : t ≡ inOrder c a b) (triplet : IsTriplet area n t) where
-          -- It cannot matter.
-          pub first-dropped : canMatter area t (s .below) ≡ false →
-              Swept (WithFirst ws states area n (s₀ .made) c a to) (Given (s₀ .made)) found₀ s₀ found s
-          first-dropped e =
-              let lie : 64 * s .made ≤ length states = rw (so-far .made-stays) (ready .lie) in
-              let inside : t .w < s .made = rw (so-far .made-stays) (ready-inside triplet .w-made) in
-              first-more (swept-none
-              (λ x cost k.
-              let gives : Gives ws states (s .made) t x cost = rw is (k .2) in
-              inl (dropped (ready .weighed) lie (triplet .rising) inside (k .0) (triplet .current) gives (s .below) e))
-              (so-far .room))
+          -- Nothing that it gives costs less than its outlook.
+          module _ {r : ℕ} (outlook : Outlook states area (s .made) t r) where
+            here-no-less : (x : Bytes) (cost : ℕ) → Here ws states area n (s .made) c a b x cost → r ≤ cost
+            here-no-less x cost k =
+                let gives : Gives ws states (s .made) t x cost = rw is (k .2) in
+                let lie : 64 * s .made ≤ length states = rw (so-far .made-stays) (ready .lie) in
+                let inside : t .w < s .made = rw (so-far .made-stays) (ready-inside triplet .w-made) in
+                ⊎-elim
+                (λ e. omega (arith, no-less (ready .weighed) lie (triplet .rising) inside (k .0) (triplet .current) gives))
+                (λ settled.
+                let (i, h, e) = settled .0 (gives .median .number) (gives .median .below-three) in
+                absurd (gives .unmade i h (e ∙ sym (gives .median .row-is))))
+                outlook
 
-          -- All its median vectors are rows made.
-          pub first-settled : Settled states (s .made) t → Swept (WithFirst ws states area n (s₀ .made) c a to) (Given (s₀ .made)) found₀ s₀ found s
-          first-settled settled =
-              first-more (swept-none
-              (λ x cost k.
-              let gives : Gives ws states (s .made) t x cost = rw is (k .2) in
-              let (i, h, e) = settled (gives .median .number) (gives .median .below-three) in
-              absurd (gives .unmade i h (e ∙ sym (gives .median .row-is))))
-              (so-far .room))
+            -- So it is passed where that does not matter, and the floor is lowered to it.
+            pub first-passed : s .below ≤ r → Swept (WithFirst ws states area n (s₀ .made) c a to) (Given (s₀ .made)) found₀ s₀ found s
+            first-passed h = first-more (swept-none (λ x cost k. inl (omega (arith, here-no-less x cost k))) (so-far .room))
+
+            pub first-lowered : {high low : ℕ} → Floored (WithFirst ws states area n (s₀ .made) c a b) high low →
+                Floored (WithFirst ws states area n (s₀ .made) c a to) high (min low r)
+            first-lowered f = floored-more f here (λ x cost. which-second follows)
+              where
+                here : {low : ℕ} → Floored (Here ws states area n (s₀ .made) c a b) low (min low r)
+                here = record {
+                  no-higher = omega arith;
+                  no-less = λ x cost k. omega (arith, here-no-less x cost (rw (so-far .made-stays) k));
+                }
 
           -- It is visited, and what it gives is a candidate.
           pub first-visited : {found′ : Bytes} {s′ : Search} →

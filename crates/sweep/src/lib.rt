@@ -3,20 +3,21 @@
 
 ghost use mathlib.Core.Path.{_≡_};
 ghost use mathlib.Core.Bool.{true};
-ghost use Prim.Native.Nat.{_<_};
+ghost use Prim.Native.Nat.{_*_, _≤_, _<_, min};
 ghost use lib.ListN.{length};
 ghost use Rattle.distances.specs.Area.{Weighed};
 ghost use Rattle.links.specs.Marks.{marked};
 ghost use Rattle.search.specs.Search.{Inside};
 ghost use Rattle.search.specs.Swept.{Gives, Swept};
-ghost use Rattle.sweep.specs.Candidate.{Candidate, WithFirst, AtCentre, Everywhere, Ready, Kept};
+ghost use Rattle.sweep.specs.Candidate.{Candidate, WithFirst, AtCentre, Everywhere, Worded, Ready, Kept};
+ghost use Rattle.sweep.specs.Floors.{Outlook, Floored, Floors};
 use known::alike;
 use medians::medians;
 use search::Search;
 use search::consider;
 use triplets::Triplet;
-use triplets::can_matter;
 use triplets::in_order;
+use triplets::least_cost;
 
 // The median vectors of a triplet. Where the first two are equal, all three are.
 fn visit(
@@ -44,8 +45,47 @@ fn visit(
     consider(states, weights, found, guesses, two, t, &third)
 }
 
+// What is met: the search has come to this, and no candidate met costs less than the floor.
+pub struct Met {
+    pub search: Search,
+    pub floor: usize,
+}
+
+fn lesser(x: usize, y: usize) -> usize
+    ensures { λ r. ⌜ r ≡ min x y ⌝ }
+{
+    if x < y { x } else { y }
+}
+
+// No candidate of a triplet costs less than this, by its distances; and where these leave a cost that matters, it is asked whether all
+// its median vectors are rows made: then it has none, of any cost.
+fn outlook(
+    states: &[u8],
+    area: &[u16],
+    masks: &mut [u64],
+    hints: &[u64],
+    m: usize,
+    made: usize,
+    t: Triplet,
+    below: usize,
+) -> usize
+    requires { ⌜ Worded (now states) (now masks) m made × (made ≤ 128) × (64 * made ≤ length (now states)) × (16384 ≤ length (now area))
+        × (t .u < made) × (t .v < made) × (t .w < made) ⌝ }
+    ensures { λ r. ⌜ Outlook (now (states .entry)) (now (area .entry)) made t r × Worded (now (states .entry)) (now (masks .exit)) m made
+        × (length (now (masks .exit)) ≡ length (now (masks .entry))) ⌝ }
+{
+    let least = least_cost(area, t);
+    if below <= least {
+        return least;
+    }
+    if settled::settled(states, masks, hints, m, made, t) {
+        return 200000;
+    }
+    least
+}
+
 // The triplets of type c and two types linked with it, of which a is the lower one. Where the two are linked with each other and a
-// is below c, the triplet is met at type a. One whose median vectors are all known to be made is not visited.
+// is below c, the triplet is met at type a.
 fn with_first(
     states: &[u8],
     area: &[u16],
@@ -58,28 +98,34 @@ fn with_first(
     m: usize,
     n: usize,
     search: Search,
+    floor: usize,
     c: usize,
     a: usize,
-) -> Search
+) -> Met
     requires { ⌜ Ready (now states) (now area) (now weights) (now next) (now masks) (now found) (now guesses) m n search × (c < n) × (a < n) × (marked (now area) c a ≡ true) ⌝ }
     ensures { λ r. ⌜ Kept (now (states .entry)) m (search .made) (now (masks .entry)) (now (masks .exit)) (now (guesses .exit))
         × Swept (WithFirst (now (weights .entry)) (now (states .entry)) (now (area .entry)) n (search .made) c a n)
-        (Candidate (now (weights .entry)) (now (states .entry)) (now (area .entry)) n (search .made)) (now (found .entry)) search (now (found .exit)) r ⌝ }
+        (Candidate (now (weights .entry)) (now (states .entry)) (now (area .entry)) n (search .made)) (now (found .entry)) search (now (found .exit)) (r .search)
+        × Floored (WithFirst (now (weights .entry)) (now (states .entry)) (now (area .entry)) n (search .made) c a n) floor (r .floor) ⌝ }
 {
     let mut now = search;
+    let mut low = floor;
     let mut b = next[129 * c + a + 1] as usize;
     while b < n {
         if c < a || area[128 * b + a] != 1 {
             let t = in_order(c, a, b);
-            if can_matter(area, t, now.below) {
-                if !settled::settled(states, masks, hints, m, now.made, t) {
-                    now = visit(states, weights, found, guesses, now, t);
-                }
+            let least = outlook(states, area, masks, hints, m, now.made, t, now.below);
+            low = lesser(low, least);
+            if least < now.below {
+                now = visit(states, weights, found, guesses, now, t);
             }
         }
         b = next[129 * c + b + 1] as usize;
     }
-    now
+    Met {
+        search: now,
+        floor: low,
+    }
 }
 
 // The triplets of type c and two types linked with it.
@@ -96,13 +142,17 @@ fn at_centre(
     n: usize,
     search: Search,
     c: usize,
-) -> Search
+) -> Met
     requires { ⌜ Ready (now states) (now area) (now weights) (now next) (now masks) (now found) (now guesses) m n search × (c < n) ⌝ }
     ensures { λ r. ⌜ Kept (now (states .entry)) m (search .made) (now (masks .entry)) (now (masks .exit)) (now (guesses .exit))
         × Swept (AtCentre (now (weights .entry)) (now (states .entry)) (now (area .entry)) n (search .made) c n)
-        (Candidate (now (weights .entry)) (now (states .entry)) (now (area .entry)) n (search .made)) (now (found .entry)) search (now (found .exit)) r ⌝ }
+        (Candidate (now (weights .entry)) (now (states .entry)) (now (area .entry)) n (search .made)) (now (found .entry)) search (now (found .exit)) (r .search)
+        × Floored (AtCentre (now (weights .entry)) (now (states .entry)) (now (area .entry)) n (search .made) c n) 200000 (r .floor) ⌝ }
 {
-    let mut now = search;
+    let mut now = Met {
+        search,
+        floor: 200000,
+    };
     let mut a = next[129 * c] as usize;
     while a < n {
         now = with_first(
@@ -116,7 +166,8 @@ fn at_centre(
             guesses,
             m,
             n,
-            now,
+            now.search,
+            now.floor,
             c,
             a,
         );
@@ -125,12 +176,13 @@ fn at_centre(
     now
 }
 
-// All triplets.
+// All triplets. A type is passed over where its floor says that nothing of a cost that matters is met there.
 pub fn sweep(
     states: &[u8],
     area: &[u16],
     weights: &[u16],
     next: &[u16],
+    floors: &mut [usize],
     masks: &mut [u64],
     hints: &[u64],
     found: &mut [u8],
@@ -139,28 +191,34 @@ pub fn sweep(
     n: usize,
     search: Search,
 ) -> Search
-    requires { ⌜ Ready (now states) (now area) (now weights) (now next) (now masks) (now found) (now guesses) m n search ⌝ }
+    requires { ⌜ Ready (now states) (now area) (now weights) (now next) (now masks) (now found) (now guesses) m n search
+        × Floors (now weights) (now states) (now area) n (search .made) (now floors) ⌝ }
     ensures { λ r. ⌜ Kept (now (states .entry)) m (search .made) (now (masks .entry)) (now (masks .exit)) (now (guesses .exit))
         × Swept (Everywhere (now (weights .entry)) (now (states .entry)) (now (area .entry)) n (search .made) n)
-        (Candidate (now (weights .entry)) (now (states .entry)) (now (area .entry)) n (search .made)) (now (found .entry)) search (now (found .exit)) r ⌝ }
+        (Candidate (now (weights .entry)) (now (states .entry)) (now (area .entry)) n (search .made)) (now (found .entry)) search (now (found .exit)) r
+        × Floors (now (weights .entry)) (now (states .entry)) (now (area .entry)) n (search .made) (now (floors .exit)) ⌝ }
 {
     let mut now = search;
     let mut c = 0;
     while c < n {
-        now = at_centre(
-            states,
-            area,
-            weights,
-            next,
-            masks,
-            hints,
-            found,
-            guesses,
-            m,
-            n,
-            now,
-            c,
-        );
+        if floors[c] < now.below {
+            let met = at_centre(
+                states,
+                area,
+                weights,
+                next,
+                masks,
+                hints,
+                found,
+                guesses,
+                m,
+                n,
+                now,
+                c,
+            );
+            now = met.search;
+            floors[c] = met.floor;
+        }
         c += 1;
     }
     now

@@ -4,7 +4,8 @@ use mathlib.Core.Path.{_≡_, refl, sym, _∙_}
 use mathlib.Core.Logic.{_⊎_, inl, inr, _≢_}
 use mathlib.Core.Bool.{Bool, true, false, not, _&&_, false≢true}
 use mathlib.Core.List.{List}
-use Prim.Native.Nat.{ℕ, _+_, _*_, _≤_, _<_, min, max}
+use Prim.Native.Nat.{ℕ, _+_, _*_, _/_, _≤_, _<_, min, max}
+use native.Mathlib.Nat.{div-add-mod'}
 use native.Mathlib.Decide.{ℕ-discrete, decLt}
 use native.Mathlib.Omega.{arith}
 use lib.Dec.{ltb, eqb}
@@ -16,7 +17,7 @@ use Rattle.rules.specs.Median.{twoOf}
 use Rattle.distances.specs.Area.{cellAt}
 use Rattle.links.specs.Marks.{marked}
 use Rattle.triplets.specs.declared.Triplet.{Triplet}
-use Rattle.triplets.specs.Triplet.{inOrder, canMatter}
+use Rattle.triplets.specs.Triplet.{inOrder, leastCost}
 
 -- A mark has no direction, and is of two types that differ.
 module _ (area : List ℕ) (i j : ℕ) where
@@ -149,42 +150,24 @@ sumOf area t = cellAt area (t .u) (t .v) + cellAt area (t .u) (t .w) + cellAt ar
 pub sum-small : (area : List ℕ) (t : Triplet) → ((p : ℕ) → Fits w16 (getD area p 0)) → sumOf area t ≤ 196605
 sum-small area t small = omega (arith, small (128 * t .u + t .v), small (128 * t .u + t .w), small (128 * t .v + t .w))
 
--- The tests of a triplet but the last.
-abbrev pub canYet : List ℕ → Triplet → ℕ → Bool
-canYet area t below =
-    let uv = cellAt area (t .u) (t .v) in
-    let uw = cellAt area (t .u) (t .w) in
-    let vw = cellAt area (t .v) (t .w) in
-    ltb (uv + uw + vw) (2 * below) && not (eqb (uv + vw) uw) && not (eqb (uv + uw) vw)
-
 -- One type lies between the other two, by their distances.
 abbrev pub Between : ℕ → ℕ → ℕ → Type 0
 Between uv uw vw = (uv + vw ≡ uw) ⊎ (uv + uw ≡ vw) ⊎ (uw + vw ≡ uv)
 
--- A test that is asked where another passed.
-pub asked-then : {T F : Type 0} {q r : Bool} (t : Bool) → (T → t ≡ true) → (F → t ≡ false) → (T × (r ≡ q)) ⊎ (F × (r ≡ t)) → r ≡ (t && q)
-asked-then t p n (inl (w, e)) = rw (p w) e
-asked-then t p n (inr (w, e)) = rw (n w) (e ∙ n w)
-
--- A triplet that cannot matter: half its distances' sum is not below the bound, or one type lies between the other two.
-pub can-matter-not : (area : List ℕ) (t : Triplet) (below : ℕ) → canMatter area t below ≡ false →
-    (2 * below ≤ sumOf area t) ⊎ Between (cellAt area (t .u) (t .v)) (cellAt area (t .u) (t .w)) (cellAt area (t .v) (t .w))
-can-matter-not area t below e =
+-- No cost is that small a number's half: what a triplet's least cost says of its distances.
+pub least-cost-is : (area : List ℕ) (t : Triplet) →
+    (2 * leastCost area t ≤ sumOf area t) ⊎ Between (cellAt area (t .u) (t .v)) (cellAt area (t .u) (t .w)) (cellAt area (t .v) (t .w))
+least-cost-is area t =
     let uv = cellAt area (t .u) (t .v) in
     let uw = cellAt area (t .u) (t .w) in
     let vw = cellAt area (t .v) (t .w) in
-    elim (decLt (sumOf area t) (2 * below)) [
-      | no far ↦ inl (omega arith)
-      | yes near ↦ elim (ℕ-discrete (uv + vw) uw) [
-        | yes v ↦ inr (inl v)
-        | no nv ↦ elim (ℕ-discrete (uv + uw) vw) [
-          | yes u ↦ inr (inr (inl u))
-          | no nu ↦ elim (ℕ-discrete (uw + vw) uv) [
-            | yes w ↦ inr (inr (inr w))
-            | no nw ↦
-                let small = lt-ltb (sumOf area t) (2 * below) near in
-                absurd (false≢true (sym (rw (small, ne-eqb (uv + vw) uw nv, ne-eqb (uv + uw) vw nu, ne-eqb (uw + vw) uv nw) at e)))
-          ]
+    elim (ℕ-discrete (uv + vw) uw) [
+      | yes v ↦ inr (inl v)
+      | no nv ↦ elim (ℕ-discrete (uv + uw) vw) [
+        | yes u ↦ inr (inr (inl u))
+        | no nu ↦ elim (ℕ-discrete (uw + vw) uv) [
+          | yes w ↦ inr (inr (inr w))
+          | no nw ↦ inl (rw (ne-eqb (uv + vw) uw nv, ne-eqb (uv + uw) vw nu, ne-eqb (uw + vw) uv nw) (omega (arith, div-add-mod' (uv + uw + vw) 2)))
         ]
       ]
     ]

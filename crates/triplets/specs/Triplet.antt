@@ -1,7 +1,7 @@
 -- A triplet in the order of its types' numbers, and what its distances tell.
-use mathlib.Core.Bool.{Bool, cond, not, _&&_}
+use mathlib.Core.Bool.{cond, _||_}
 use mathlib.Core.List.{List}
-use Prim.Native.Nat.{ℕ, _+_, _*_}
+use Prim.Native.Nat.{ℕ, _+_, _/_}
 use lib.Dec.{ltb, eqb}
 use Rattle.distances.specs.Area.{cellAt}
 use Rattle.triplets.specs.declared.Triplet.{Triplet}
@@ -10,10 +10,10 @@ use Rattle.triplets.specs.declared.Triplet.{Triplet}
 abbrev pub inOrder : ℕ → ℕ → ℕ → Triplet
 inOrder c a b = cond (ltb c a) (record { u = c; v = a; w = b }) (cond (ltb c b) (record { u = a; v = c; w = b }) (record { u = a; v = b; w = c }))
 
--- The three distances add up to less than twice the bound, and no type lies between the other two.
-abbrev pub canMatter : List ℕ → Triplet → ℕ → Bool
-canMatter area t below =
+-- Half the sum of the three distances; where a type lies between the other two, more than any cost.
+abbrev pub leastCost : List ℕ → Triplet → ℕ
+leastCost area t =
     let uv = cellAt area (t .u) (t .v) in
     let uw = cellAt area (t .u) (t .w) in
     let vw = cellAt area (t .v) (t .w) in
-    ltb (uv + uw + vw) (2 * below) && not (eqb (uv + vw) uw) && not (eqb (uv + uw) vw) && not (eqb (uw + vw) uv)
+    cond (eqb (uv + vw) uw || eqb (uv + uw) vw || eqb (uw + vw) uv) 200000 ((uv + uw + vw) / 2)

@@ -5,7 +5,7 @@ ghost use mathlib.Core.Path.{_≡_};
 ghost use Prim.Native.Nat.{_+_, _≤_, _<_};
 ghost use lib.ListN.{length};
 ghost use Rattle.triplets.specs.Followers.{Follower, FollowLine, Followers};
-ghost use Rattle.triplets.specs.Triplet.{inOrder, canMatter};
+ghost use Rattle.triplets.specs.Triplet.{inOrder, leastCost};
 
 // Three types, ascending.
 pub struct Triplet {
@@ -81,11 +81,11 @@ pub fn in_order(c: usize, a: usize, b: usize) -> Triplet
     }
 }
 
-// Whether a triplet can have a candidate of a cost below this, by its distances: the cost is at least half their sum, and where
-// one type lies between the other two it is their only median vector.
-pub fn can_matter(area: &[u16], t: Triplet, below: usize) -> bool
-    requires { ⌜ (t .u < 128) × (t .v < 128) × (t .w < 128) × (below ≤ 200000) × (16384 ≤ length (now area)) ⌝ }
-    ensures { λ r. ⌜ r ≡ canMatter (now (area .entry)) t below ⌝ }
+// No candidate of a triplet costs less than this, by its distances: half their sum. Where one type lies between the other two it is
+// their only median vector, and there is no candidate: more than any cost.
+pub fn least_cost(area: &[u16], t: Triplet) -> usize
+    requires { ⌜ (t .u < 128) × (t .v < 128) × (t .w < 128) × (16384 ≤ length (now area)) ⌝ }
+    ensures { λ r. ⌜ r ≡ leastCost (now (area .entry)) t ⌝ }
 {
     let u = t.u;
     let v = t.v;
@@ -93,5 +93,14 @@ pub fn can_matter(area: &[u16], t: Triplet, below: usize) -> bool
     let uv = area[128 * u + v] as usize;
     let uw = area[128 * u + w] as usize;
     let vw = area[128 * v + w] as usize;
-    uv + uw + vw < 2 * below && uv + vw != uw && uv + uw != vw && uw + vw != uv
+    if uv + vw == uw {
+        return 200000;
+    }
+    if uv + uw == vw {
+        return 200000;
+    }
+    if uw + vw == uv {
+        return 200000;
+    }
+    (uv + uw + vw) / 2
 }

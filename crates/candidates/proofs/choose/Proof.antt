@@ -10,19 +10,20 @@ use Rattle.search.specs.Search.{forLambda, forAll}
 use Rattle.search.specs.Swept.{Swept}
 use Rattle.search.specs.declared.Search.{Search}
 use Rattle.sweep.specs.Candidate.{Candidate, Everywhere}
+use Rattle.sweep.proofs.Floors.{floors-first}
 use Rattle.candidates.proofs.Chosen.{fresh-none, fresh-full, fresh-all}
 use Rattle.candidates.proofs.choose.Statement.{statement}
 use Rattle.candidates.proofs.choose.Tie as tie
 
 -- The function's start, as the first sweep has it, and that sweep, as the second one has it.
 abbrev start : tie.After-sweep → tie.Start
-start c = c .before .before .before .before .before .before .before .before .before .before .before .before
+start c = c .before .before .before .before .before .before .before .before .before .before .before .before .before
 
 abbrev not-none : tie.After-sweep2 → tie.Else1
-not-none c = c .before .before .before .before .before .before
+not-none c = c .before .before .before .before .before .before .before
 
 abbrev first : tie.After-sweep2 → tie.After-sweep
-first c = not-none c .before .before .before .before .before .before .before
+first c = not-none c .before .before .before .before .before .before .before .before
 
 -- What each sweep came to: for lambda, and for all within the window.
 module _ (c : tie.After-sweep) where
@@ -32,19 +33,19 @@ module _ (c : tie.After-sweep) where
   abbrev everywhere : Bytes → ℕ → Type 0
   everywhere = let a = start c .args in Everywhere (a .weights .now) (a .states .now) (a .area .now) (a .n) (a .made) (a .n)
 
-  swept : Swept everywhere told (replicate 8192 0) (forLambda (start c .args .made)) (c .sweep .last .1 .1 .1 .1 .1 .1 .0) (c .sweep .result)
-  swept = rw (c .before .before .before .before .for-lambda .ensures) at (c .sweep .ensures .1)
+  swept : Swept everywhere told (replicate 8192 0) (forLambda (start c .args .made)) (c .sweep .last .1 .1 .1 .1 .1 .1 .1 .0) (c .sweep .result)
+  swept = rw (c .before .before .before .before .before .for-lambda .ensures) at (c .sweep .ensures .1)
 
-  lambda-from : c .before .before .before .before .for-lambda .result .below ≡ 128001
-  lambda-from = ap (λ (s : Search). s .below) (c .before .before .before .before .for-lambda .ensures)
+  lambda-from : c .before .before .before .before .before .for-lambda .result .below ≡ 128001
+  lambda-from = ap (λ (s : Search). s .below) (c .before .before .before .before .before .for-lambda .ensures)
 
 all-swept : (c : tie.After-sweep2) → let f = first c in
-    Swept (everywhere f) (told f) (f .sweep .last .1 .1 .1 .1 .1 .1 .0) (forAll (start f .args .made) (f .sweep .result .below + start f .args .epsilon + 1))
-    (c .sweep2 .last .1 .1 .1 .1 .1 .1 .0) (c .sweep2 .result)
-all-swept c = rw (c .before .before .before .before .for-all .ensures) at (c .sweep2 .ensures .1)
+    Swept (everywhere f) (told f) (f .sweep .last .1 .1 .1 .1 .1 .1 .1 .0) (forAll (start f .args .made) (f .sweep .result .below + start f .args .epsilon + 1))
+    (c .sweep2 .last .1 .1 .1 .1 .1 .1 .1 .0) (c .sweep2 .result)
+all-swept c = rw (c .before .before .before .before .before .for-all .ensures) at (c .sweep2 .ensures .1)
 
 -- There are as many words as before.
-kept-both : (c : tie.After-sweep2) → length (c .sweep2 .last .1 .1 .1 .1 .0) ≡ length (start (first c) .args .masks .now)
+kept-both : (c : tie.After-sweep2) → length (c .sweep2 .last .1 .1 .1 .1 .1 .0) ≡ length (start (first c) .args .masks .now)
 kept-both c = c .sweep2 .ensures .0 .masks-size ∙ first c .sweep .ensures .0 .masks-size
 
 -- There is a candidate.
@@ -63,72 +64,84 @@ slice-aggregate-sweep c = search needs
 slice-aggregate-sweep-2 : tie.Need-slice-aggregate-sweep-2
 slice-aggregate-sweep-2 c = search needs
 
+slice-aggregate-sweep-3 : tie.Need-slice-aggregate-sweep-3
+slice-aggregate-sweep-3 c = search needs
+
 sweep-requires : tie.Need-sweep-requires
 sweep-requires c κs =
-    let p = c .before .before .before .before .before .before .before .before .before .before .before .pre in
-    rw (c .before .before .before .for-lambda .ensures) (record {
-      weighed = p .0 .weighed;
-      follows = p .0 .follows;
-      worded = p .1;
-      current = p .0 .current;
-      room = omega (arith, p .0 .few);
-      lie = p .0 .lie;
-      cells = p .0 .cells;
-      found-size = simp length-replicate;
-      guesses-size = search needs;
-      low = omega arith;
-    })
+    let p = c .before .before .before .before .before .before .before .before .before .before .before .before .pre in
+    rw (c .before .before .before .before .for-lambda .ensures) (
+      record {
+        weighed = p .0 .weighed;
+        follows = p .0 .follows;
+        worded = p .1;
+        current = p .0 .current;
+        room = omega (arith, p .0 .few);
+        lie = p .0 .lie;
+        cells = p .0 .cells;
+        found-size = simp length-replicate;
+        guesses-size = search needs;
+        low = omega arith;
+      },
+      floors-first,
+    )
 
 same-length : tie.Need-same-length
-same-length c = c .before .before .before .before .before .before .before .sweep .ensures .0 .masks-size
+same-length c = c .before .before .before .before .before .before .before .before .sweep .ensures .0 .masks-size
 
 returns : tie.Need-returns
 returns c =
-    let s = c .before .before .before .before .before .before .before in
+    let s = c .before .before .before .before .before .before .before .before in
     let p = start s .pre .0 in
     fresh-none (swept s) (start s .args .epsilon) (p .weighed) (p .current) (p .few) (p .lie) (c .if1 .taken ∙ lambda-from s)
 
 add-for-all : tie.Need-add-for-all
-add-for-all c = let s = c .before .before .before .before .before .before .before .before in omega (arith, swept s .no-higher, start s .pre .0 .small)
+add-for-all c = let s = c .before .before .before .before .before .before .before .before .before in omega (arith, swept s .no-higher, start s .pre .0 .small)
 
 add-for-all-2 : tie.Need-add-for-all-2
-add-for-all-2 c = let s = c .before .before .before .before .before .before .before .before in omega (arith, swept s .no-higher, start s .pre .0 .small)
+add-for-all-2 c = let s = c .before .before .before .before .before .before .before .before .before in omega (arith, swept s .no-higher, start s .pre .0 .small)
 
 for-all-requires : tie.Need-for-all-requires
 for-all-requires c κs = search needs
 
-slice-aggregate-sweep-3 : tie.Need-slice-aggregate-sweep-3
-slice-aggregate-sweep-3 c = search needs
-
 slice-aggregate-sweep-4 : tie.Need-slice-aggregate-sweep-4
 slice-aggregate-sweep-4 c = search needs
 
+slice-aggregate-sweep-5 : tie.Need-slice-aggregate-sweep-5
+slice-aggregate-sweep-5 c = search needs
+
+slice-aggregate-sweep-6 : tie.Need-slice-aggregate-sweep-6
+slice-aggregate-sweep-6 c = search needs
+
 sweep-requires-2 : tie.Need-sweep-requires-2
 sweep-requires-2 c κs =
-    let s = c .before .before .before .before .before .before .before .before .before .before .before .before in
+    let s = c .before .before .before .before .before .before .before .before .before .before .before .before .before .before in
     let p = start s .pre .0 in
-    rw (c .before .before .before .for-all .ensures) (record {
-      weighed = p .weighed;
-      follows = p .follows;
-      worded = rw (s .before .before .before .before .for-lambda .ensures) at (s .sweep .ensures .0 .worded);
-      current = p .current;
-      room = omega (arith, p .few);
-      lie = p .lie;
-      cells = p .cells;
-      found-size = swept s .size ∙ simp length-replicate;
-      guesses-size = s .sweep .ensures .0 .guesses-size;
-      low = omega (arith, swept s .no-higher, p .small);
-    })
+    rw (c .before .before .before .before .for-all .ensures) (
+      record {
+        weighed = p .weighed;
+        follows = p .follows;
+        worded = rw (s .before .before .before .before .before .for-lambda .ensures) at (s .sweep .ensures .0 .worded);
+        current = p .current;
+        room = omega (arith, p .few);
+        lie = p .lie;
+        cells = p .cells;
+        found-size = swept s .size ∙ simp length-replicate;
+        guesses-size = s .sweep .ensures .0 .guesses-size;
+        low = omega (arith, swept s .no-higher, p .small);
+      },
+      rw (s .before .before .before .before .before .for-lambda .ensures) at (s .sweep .ensures .2),
+    )
 
 none-fits-requires : tie.Need-none-fits-requires
 none-fits-requires c κs = search needs
 
 same-length-2 : tie.Need-same-length-2
-same-length-2 c = kept-both (c .before .before .before .before .before .before)
+same-length-2 c = kept-both (c .before .before .before .before .before .before .before)
 
 returns-2 : tie.Need-returns-2
 returns-2 c =
-    let s = c .before .before .before .before .before .before in
+    let s = c .before .before .before .before .before .before .before in
     let f = first s in
     fresh-full (swept f) (start f .args .epsilon) (not-lambda s) (all-swept s) (start f .pre .0 .few) (c .before .if2 .taken) (c .none-fits .ensures)
 
@@ -139,11 +152,11 @@ ascending-requires : tie.Need-ascending-requires
 ascending-requires c κs = search needs
 
 same-length-3 : tie.Need-same-length-3
-same-length-3 c = kept-both (c .before .before .before .before .before .before .before .before)
+same-length-3 c = kept-both (c .before .before .before .before .before .before .before .before .before)
 
 returns-3 : tie.Need-returns-3
 returns-3 c =
-    let s = c .before .before .before .before .before .before .before .before in
+    let s = c .before .before .before .before .before .before .before .before .before in
     let f = first s in
     fresh-all (swept f) (start f .args .epsilon) (not-lambda s) (all-swept s) (c .before .before .before .if2 .left) (c .before .ascending .ensures)
 
@@ -155,14 +168,16 @@ choose-spec =
     for-lambda-requires
     slice-aggregate-sweep
     slice-aggregate-sweep-2
+    slice-aggregate-sweep-3
     sweep-requires
     same-length
     returns
     add-for-all
     add-for-all-2
     for-all-requires
-    slice-aggregate-sweep-3
     slice-aggregate-sweep-4
+    slice-aggregate-sweep-5
+    slice-aggregate-sweep-6
     sweep-requires-2
     none-fits-requires
     same-length-2

@@ -1,25 +1,27 @@
 -- `sweep::at_centre` meets its contract: what the triplets with the lower types passed give is swept.
 use mathlib.Core.Path.{_≡_, sym, _∙_}
-use Prim.Native.Nat.{_+_, _*_, _-_}
+use Prim.Native.Nat.{_+_, _*_, _-_, _<_}
 use native.Mathlib.Omega.{arith}
 use lib.ListN.{getD}
 use Rattle.triplets.specs.Followers.{Follower}
 use Rattle.search.specs.Swept.{Swept}
 use Rattle.sweep.specs.Candidate.{Candidate, AtCentre, Kept}
-use Rattle.sweep.proofs.Walk.{Walk, walk-first, walk-next, follower-first, follower-next, kept-then, kept-none, still-ready, centre-none, centre-more}
+use Rattle.sweep.specs.Floors.{Floored}
+use Rattle.sweep.proofs.Walk.{Walk, walk-first, walk-next, follower-first, follower-next, kept-then, kept-none, still-ready, centre-none, centre-open, centre-more, centre-lowered}
 use Rattle.sweep.proofs.at_centre.Statement.{statement}
 use Rattle.sweep.proofs.at_centre.Tie as tie
 
 abbrev Inv-loop : tie.InvT-loop
 Inv-loop states area weights next masks₀ hints found₀ guesses₀ m n c now₀ a₀ masks found guesses now a =
     Walk area n c 0 a
-    × Kept states m (now₀ .made) masks₀ masks guesses
-    × Swept (AtCentre weights states area n (now₀ .made) c a) (Candidate weights states area n (now₀ .made)) found₀ now₀ found now
+    × Kept states m (now₀ .search .made) masks₀ masks guesses
+    × Swept (AtCentre weights states area n (now₀ .search .made) c a) (Candidate weights states area n (now₀ .search .made)) found₀ (now₀ .search) found (now .search)
+    × Floored (AtCentre weights states area n (now₀ .search .made) c a) (now₀ .floor) (now .floor)
 
 abbrev μ-loop : tie.MeasureT-loop
 μ-loop states area weights next masks₀ hints found₀ guesses₀ m n c now₀ a₀ masks found guesses now a = n - a
 
--- The function's start, and the follower of the next type.
+-- The function's start, the follower of the next type, and that numbers of types are small.
 abbrev start : tie.At-loop Inv-loop μ-loop → tie.Start Inv-loop μ-loop
 start c = c .before .before .before .before .before .before .before .before .before .before
 
@@ -28,6 +30,11 @@ follower : (c : tie.In-loop Inv-loop μ-loop) →
     let a = c .before .loop .a in
     Follower (s .area .now) (s .n) (s .c) (a + 1) (getD (s .next .now) (129 * s .c + a + 1) 0)
 follower c = let s = start (c .before) in follower-next (s .pre .0 .follows) (s .args .c) (s .pre .1) (c .before .loop .a) (c .loop-test .taken)
+
+small : (c : tie.In-loop Inv-loop μ-loop) → let s = start (c .before) .args in (s .c < 128) × (c .before .loop .a < 128)
+small c =
+    let s = start (c .before) in
+    (omega (arith, s .pre .1, s .pre .0 .current, s .pre .0 .room), omega (arith, c .loop-test .taken, s .pre .0 .current, s .pre .0 .room))
 
 mul-a : tie.Need-mul-a Inv-loop μ-loop
 mul-a c = omega arith
@@ -46,7 +53,7 @@ loop-holds c =
     let s = c .before .before .before .before .before .before .before .before .before in
     let ready = s .pre .0 in
     let f = follower-first (ready .follows) (s .args .c) (s .pre .1) in
-    (walk-first f, kept-none ready, centre-none ready (s .args .c) f)
+    (walk-first f, kept-none ready, centre-none ready (s .args .c) f, centre-open ready (s .args .c) f)
 
 with-first-requires : tie.Need-with-first-requires Inv-loop μ-loop
 with-first-requires c κs =
@@ -57,19 +64,21 @@ with-first-requires c κs =
     (still-ready (s .pre .0) (l .inv .2) (l .inv .1), s .pre .1, h, l .inv .0 .linked h)
 
 mul-a-3 : tie.Need-mul-a-3 Inv-loop μ-loop
-mul-a-3 c = omega arith
+mul-a-3 c = omega (arith, small (c .before .before .before .before .before .before .before .before .before .before))
 
 add-a : tie.Need-add-a Inv-loop μ-loop
-add-a c = omega arith
+add-a c = omega (arith, small (c .before .before .before .before .before .before .before .before .before .before))
 
 add-a-2 : tie.Need-add-a-2 Inv-loop μ-loop
-add-a-2 c = omega arith
+add-a-2 c = omega (arith, small (c .before .before .before .before .before .before .before .before .before .before))
 
 mul-a-4 : tie.Need-mul-a-4 Inv-loop μ-loop
-mul-a-4 c = omega arith
+mul-a-4 c = omega (arith, small (c .before .before .before .before .before .before .before .before .before .before))
 
 shared-slice-read-a-2 : tie.Need-shared-slice-read-a-2 Inv-loop μ-loop
-shared-slice-read-a-2 c = omega (arith, start (c .before .before .before .before .before .before .before .before .before .before .before .before) .pre .0 .follows .size)
+shared-slice-read-a-2 c =
+    let i = c .before .before .before .before .before .before .before .before .before .before .before in
+    omega (arith, small i, start (i .before) .pre .0 .follows .size)
 
 cast-a-2 : tie.Need-cast-a-2 Inv-loop μ-loop
 cast-a-2 c =
@@ -88,7 +97,12 @@ loop-again c =
     let s = start (i .before) in
     let f = follower i in
     let e = called .with-first .ensures in
-    (walk-next (l .inv .0) f, kept-then (l .inv .2 .made-stays) (l .inv .1) (e .0), centre-more (s .pre .0) (s .args .c) (l .a) f (l .inv .2) (e .1))
+    let stays = l .inv .2 .made-stays in (
+      walk-next (l .inv .0) f,
+      kept-then stays (l .inv .1) (e .0),
+      centre-more (s .pre .0) (s .args .c) (l .a) f (l .inv .2) (e .1),
+      centre-lowered (s .pre .0) (s .args .c) (l .a) stays f (l .inv .3) (e .2),
+    )
 
 same-length : tie.Need-same-length Inv-loop μ-loop
 same-length c = c .before .loop .inv .1 .masks-size
@@ -103,7 +117,7 @@ returns : tie.Need-returns Inv-loop μ-loop
 returns c =
     let l = c .before .loop in
     let e : l .a ≡ start (c .before) .args .n = omega (arith, l .inv .0 .within) in
-    (l .inv .1, rw e at (l .inv .2))
+    (l .inv .1, rw e at (l .inv .2), rw e at (l .inv .3))
 
 pub at-centre-spec : {M : Type 1} → statement M
 at-centre-spec =

@@ -10,21 +10,23 @@ use Rattle.triplets.specs.Followers.{Follower}
 use Rattle.triplets.specs.Triplet.{inOrder}
 use Rattle.triplets.specs.declared.Triplet.{Triplet}
 use Rattle.triplets.proofs.Order.{mark-read}
+use Rattle.sweep.specs.Floors.{Floored}
 use Rattle.sweep.specs.Candidate.{IsTriplet, Candidate, WithFirst, Ready, Kept}
 use Rattle.sweep.proofs.Seated.{met-triplet}
-use Rattle.sweep.proofs.Walk.{Walk, walk-first, walk-next, follower-next, kept-words, kept-guesses, kept-none, still-ready, ready-inside, first-none, first-skipped, first-dropped, first-settled, first-visited}
+use Rattle.sweep.proofs.Walk.{Walk, walk-first, walk-next, follower-next, kept-words, kept-guesses, kept-none, still-ready, ready-inside, first-none, first-open, first-skipped, first-kept, first-passed, first-lowered, first-visited}
 use borrow.Author.Tests.{not-false}
 use Rattle.sweep.proofs.with_first.Statement.{statement}
 use Rattle.sweep.proofs.with_first.Tie as tie
 
 abbrev Inv-loop : tie.InvT-loop
-Inv-loop states area weights next masks₀ hints found₀ guesses₀ m n c a now₀ b₀ masks found guesses now b =
+Inv-loop states area weights next masks₀ hints found₀ guesses₀ m n floor c a now₀ low₀ b₀ masks found guesses now low b =
     Walk area n c (a + 1) b
     × Kept states m (now₀ .made) masks₀ masks guesses
     × Swept (WithFirst weights states area n (now₀ .made) c a b) (Candidate weights states area n (now₀ .made)) found₀ now₀ found now
+    × Floored (WithFirst weights states area n (now₀ .made) c a b) floor low
 
 abbrev μ-loop : tie.MeasureT-loop
-μ-loop states area weights next masks₀ hints found₀ guesses₀ m n c a now₀ b₀ masks found guesses now b = n - b
+μ-loop states area weights next masks₀ hints found₀ guesses₀ m n floor c a now₀ low₀ b₀ masks found guesses now low b = n - b
 
 -- The function's start, what a search needs now, the next type's follower, and the triplet met.
 abbrev start : tie.At-loop Inv-loop μ-loop → tie.Start Inv-loop μ-loop
@@ -72,7 +74,7 @@ loop-holds c =
     let s = c .before .before .before .before .before .before .before .before .before in
     let ready = s .pre .0 in
     let f = follower-next (ready .follows) (s .args .c) (s .pre .1) (s .args .a) (s .pre .2) in
-    (walk-first f, kept-none ready, first-none ready (s .args .c) (s .args .a) f)
+    (walk-first f, kept-none ready, first-none ready (s .args .c) (s .args .a) f, first-open ready (s .args .c) (s .args .a) f)
 
 mul-if2 : tie.Need-mul-if2 Inv-loop μ-loop
 mul-if2 c = omega arith
@@ -89,19 +91,16 @@ shared-slice-read-if2 c = omega arith
 in-order-requires : tie.Need-in-order-requires Inv-loop μ-loop
 in-order-requires c κs = tt
 
-can-matter-requires : tie.Need-can-matter-requires Inv-loop μ-loop
-can-matter-requires c κs =
-    let i = c .before .before in
-    let inside = ready-inside (ready (i .before)) (triplet i (c .in-order .result) (c .in-order .ensures)) in
-    omega (arith, inside, ready (i .before))
-
-settled-requires : tie.Need-settled-requires Inv-loop μ-loop
-settled-requires c κs =
-    let o = c .before .before .before in
+outlook-requires : tie.Need-outlook-requires Inv-loop μ-loop
+outlook-requires c κs =
+    let o = c .before in
     let i = o .before .before in
     let r = ready (i .before) in
     let inside = ready-inside r (triplet i (o .in-order .result) (o .in-order .ensures)) in
-    (r .worded .narrow, r .worded .cached, omega (arith, r .room), r .lie, inside .u-made, inside .v-made, inside .w-made)
+    (r .worded, omega (arith, r .room), r .lie, r .cells, inside .u-made, inside .v-made, inside .w-made)
+
+lesser-requires : tie.Need-lesser-requires Inv-loop μ-loop
+lesser-requires c κs = tt
 
 visit-requires : tie.Need-visit-requires Inv-loop μ-loop
 visit-requires c κs =
@@ -144,18 +143,22 @@ loop-again c =
     let stays = l .inv .2 .made-stays in (
       walk-next (l .inv .0) f,
       ⊎-elim
-          (λ w. rw (w .16, w .18) (kept-guesses (kept-words stays (l .inv .1) (w .5 .ensures .1) (w .5 .ensures .2)) (w .11 .ensures .0)))
+          (λ w. rw (w .16, w .18) (kept-guesses (kept-words stays (l .inv .1) (w .3 .ensures .1 .cached) (w .3 .ensures .2)) (w .11 .ensures .0)))
           (⊎-elim
-          (λ w. rw (w .9, w .11) (kept-words stays (l .inv .1) (w .5 .ensures .1) (w .5 .ensures .2)))
-          (⊎-elim (λ w. rw (w .4, w .6) (l .inv .1)) (λ w. rw (w .3, w .5) (l .inv .1))))
+          (λ w. rw (w .9, w .11) (kept-words stays (l .inv .1) (w .3 .ensures .1 .cached) (w .3 .ensures .2)))
+          (λ w. rw (w .3, w .5) (l .inv .1)))
           (c .before .if1 .came),
       ⊎-elim
           (λ w. rw (w .17, w .19) (first-visited first (s .args .c) (s .args .a) f (l .inv .2) (w .1 .ensures) (triplet i _ (w .1 .ensures)) (w .11 .ensures .1)))
           (⊎-elim
-          (λ w. rw (w .10, w .12) (first-settled first (s .args .c) (s .args .a) f (l .inv .2) (w .1 .ensures) (triplet i _ (w .1 .ensures)) (w .5 .ensures .0 (not-false _ (w .8 .left)))))
+          (λ w. rw (w .10, w .12) (first-passed first (s .args .c) (s .args .a) f (l .inv .2) (w .1 .ensures) (triplet i _ (w .1 .ensures)) (w .3 .ensures .0) (w .8 .left)))
+          (λ w. rw (w .4, w .6) (first-skipped first (s .args .c) (s .args .a) f (l .inv .2) (w .0 .left) (mark-read (s .args .area .now) (s .args .a) (l .b) (omega (arith, l .inv .0 .on)) ∙ not-false _ (w .2 .left)))))
+          (c .before .if1 .came),
+      ⊎-elim
+          (λ w. rw (w .20, w .6 .ensures) (first-lowered first (s .args .c) (s .args .a) f (l .inv .2) (w .1 .ensures) (triplet i _ (w .1 .ensures)) (w .3 .ensures .0) (l .inv .3)))
           (⊎-elim
-          (λ w. rw (w .5, w .7) (first-dropped first (s .args .c) (s .args .a) f (l .inv .2) (w .1 .ensures) (triplet i _ (w .1 .ensures)) (sym (w .2 .ensures) ∙ w .3 .left)))
-          (λ w. rw (w .4, w .6) (first-skipped first (s .args .c) (s .args .a) f (l .inv .2) (w .0 .left) (mark-read (s .args .area .now) (s .args .a) (l .b) (omega (arith, l .inv .0 .on)) ∙ not-false _ (w .2 .left))))))
+          (λ w. rw (w .13, w .6 .ensures) (first-lowered first (s .args .c) (s .args .a) f (l .inv .2) (w .1 .ensures) (triplet i _ (w .1 .ensures)) (w .3 .ensures .0) (l .inv .3)))
+          (λ w. rw (w .7) (first-kept first (s .args .c) (s .args .a) f (l .inv .2) (w .0 .left) (mark-read (s .args .area .now) (s .args .a) (l .b) (omega (arith, l .inv .0 .on)) ∙ not-false _ (w .2 .left)) (l .inv .3))))
           (c .before .if1 .came),
     )
 
@@ -172,7 +175,7 @@ returns : tie.Need-returns Inv-loop μ-loop
 returns c =
     let l = c .before .loop in
     let e : l .b ≡ start (c .before) .args .n = omega (arith, l .inv .0 .within) in
-    (l .inv .1, rw e at (l .inv .2))
+    (l .inv .1, rw e at (l .inv .2), rw e at (l .inv .3))
 
 pub with-first-spec : {M : Type 1} → statement M
 with-first-spec =
@@ -192,8 +195,8 @@ with-first-spec =
     mul-if2-2
     shared-slice-read-if2
     in-order-requires
-    can-matter-requires
-    settled-requires
+    outlook-requires
+    lesser-requires
     visit-requires
     mul-b-3
     add-b-3

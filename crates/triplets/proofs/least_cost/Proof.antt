@@ -1,32 +1,20 @@
--- `triplets::can_matter` meets its contract: each test is asked where those before it passed.
-use mathlib.Core.Path.{_≡_}
+-- `triplets::least_cost` meets its contract: by the first test that finds a type between the other two, or none.
+use mathlib.Core.Path.{_≡_, refl}
 use Prim.Native.Nat.{_+_, _*_, _≤_}
 use native.Mathlib.Omega.{arith}
-use lib.Dec.{ltb}
 use borrow.Author.Needs.{needs}
-use borrow.Author.Tests.{lt-ltb, le-ltb}
-use Rattle.triplets.proofs.Order.{sumOf, sum-small, canYet, asked-then}
-use Rattle.triplets.proofs.can_matter.Statement.{statement}
-use Rattle.triplets.proofs.can_matter.Tie as tie
-use Rattle.triplets.proofs.can_matter.Reads as reads
-use Rattle.triplets.proofs.can_matter.Lts as lts
+use borrow.Author.Tests.{eq-eqb, ne-eqb}
+use Rattle.triplets.proofs.Order.{sumOf, sum-small}
+use Rattle.triplets.proofs.least_cost.Statement.{statement}
+use Rattle.triplets.proofs.least_cost.Tie as tie
+use Rattle.triplets.proofs.least_cost.Reads as reads
+use Rattle.triplets.proofs.least_cost.Lts as lts
 
 -- No sum of distances is large.
 small : (k : lts.After-shared-slice-known3 reads.Pre reads.Post) →
     let a = k .before .before .before .args in
     sumOf (a .area .now) (a .t) ≤ 196605
 small k = let a = k .before .before .before .args in sum-small (a .area .now) (a .t) (k .shared-slice-known3 .given)
-
--- The result before the last test.
-yet : (j : lts.Joined2 reads.Pre reads.Post) →
-    let a = j .before .before .before .before .before .args in
-    j .if2 .if3 ≡ canYet (a .area .now) (a .t) (a .below)
-yet j =
-    let two = j .before in
-    let a = two .before .before .before .before .args in
-    let one = asked-then (ltb (sumOf (a .area .now) (a .t)) (2 * a .below)) (λ w. lt-ltb _ _ (w .taken)) (λ w. le-ltb _ _ (w .left)) (two .if1 .came) in
-    let both = asked-then (two .if1 .if2) (λ w. w .taken) (λ w. w .left) (j .if2 .came) in
-    rw (← one) both
 
 mul-uv : tie.Need-mul-uv
 mul-uv c = search needs
@@ -76,29 +64,32 @@ cast-vw c = let a = c .before .before .before .args in omega (arith, c .shared-s
 add-if1 : tie.Need-add-if1
 add-if1 c = omega (arith, small c)
 
-add-if1-2 : tie.Need-add-if1-2
-add-if1-2 c = omega (arith, small c)
-
-mul-if1 : tie.Need-mul-if1
-mul-if1 c = search needs
+returns : tie.Need-returns
+returns c = rw (eq-eqb _ _ (c .if1 .taken))
 
 add-if2 : tie.Need-add-if2
-add-if2 c = search needs
-
-add-if3 : tie.Need-add-if3
-add-if3 c = let k = c .before .before in omega (arith, small k)
-
-add-result : tie.Need-add-result
-add-result c = let k = c .before .before .before in omega (arith, small k)
-
-returns : tie.Need-returns
-returns c = rw (← yet (c .before), c .if3 .taken)
+add-if2 c = omega (arith, small (c .before))
 
 returns-2 : tie.Need-returns-2
-returns-2 c = rw (← yet (c .before), c .if3 .left)
+returns-2 c = rw (ne-eqb _ _ (c .before .if1 .left), eq-eqb _ _ (c .if2 .taken))
 
-pub can-matter-spec : {M : Type 1} → statement M
-can-matter-spec =
+add-if3 : tie.Need-add-if3
+add-if3 c = omega (arith, small (c .before .before))
+
+returns-3 : tie.Need-returns-3
+returns-3 c = rw (ne-eqb _ _ (c .before .before .if1 .left), ne-eqb _ _ (c .before .if2 .left), eq-eqb _ _ (c .if3 .taken))
+
+add-result : tie.Need-add-result
+add-result c = omega (arith, small (c .before .before .before))
+
+add-result-2 : tie.Need-add-result-2
+add-result-2 c = omega (arith, small (c .before .before .before))
+
+returns-4 : tie.Need-returns-4
+returns-4 c = rw (ne-eqb _ _ (c .before .before .if1 .left), ne-eqb _ _ (c .before .if2 .left), ne-eqb _ _ (c .if3 .left))
+
+pub least-cost-spec : {M : Type 1} → statement M
+least-cost-spec =
     tie.close
     (tie.spec
     mul-uv
@@ -117,10 +108,11 @@ can-matter-spec =
     shared-slice-read-vw
     cast-vw
     add-if1
-    add-if1-2
-    mul-if1
-    add-if2
-    add-if3
-    add-result
     returns
-    returns-2)
+    add-if2
+    returns-2
+    add-if3
+    returns-3
+    add-result
+    add-result-2
+    returns-4)
