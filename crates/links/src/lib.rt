@@ -26,21 +26,21 @@ fn mark_of(distance: u16, span: u16, epsilon: u16) -> u16
 }
 
 // The marks of type j and the types before it.
-fn mark_line(area: &mut [u16], spans: &[u16], epsilon: u16, j: usize)
-    requires { ⌜ (j < 128) × (16384 ≤ length (now area)) × (16384 ≤ length (now spans)) ⌝ }
+fn mark_line(area: &mut [u16], spans: &[u16], epsilon: usize, j: usize)
+    requires { ⌜ (epsilon ≤ 65535) × (j < 128) × (16384 ≤ length (now area)) × (16384 ≤ length (now spans)) ⌝ }
     ensures { λ _. ⌜ Written (Line j j) (mark epsilon (now (spans .entry)) (now (area .entry))) (now (area .entry)) (now (area .exit)) ⌝ }
 {
     let from = 128 * j;
     let mut i = 0;
     while i < j {
-        area[from + i] = mark_of(area[from + i], spans[from + i], epsilon);
+        area[from + i] = mark_of(area[from + i], spans[from + i], epsilon as u16);
         i += 1;
     }
 }
 
 // The marks of n types whose mirror cells hold their distances.
-fn mark(area: &mut [u16], spans: &[u16], n: usize, epsilon: u16)
-    requires { ⌜ (n ≤ 128) × (16384 ≤ length (now area)) × (16384 ≤ length (now spans)) ⌝ }
+fn mark(area: &mut [u16], spans: &[u16], n: usize, epsilon: usize)
+    requires { ⌜ (epsilon ≤ 65535) × (n ≤ 128) × (16384 ≤ length (now area)) × (16384 ≤ length (now spans)) ⌝ }
     ensures { λ _. ⌜ Written (Mirror n) (mark epsilon (now (spans .entry)) (now (area .entry))) (now (area .entry)) (now (area .exit)) ⌝ }
 {
     let mut j = 0;
@@ -57,7 +57,7 @@ pub fn find_links(area: &mut [u16], n: usize, epsilon: usize)
 {
     let mut all = [256u16; 16384];
     spans(area, &mut all, n);
-    mark(area, &all, n, epsilon as u16);
+    mark(area, &all, n, epsilon);
 }
 
 // Whether two types are linked.

@@ -14,9 +14,6 @@ spans-requires c κs = search needs
 slice-aggregate-mark : tie.Need-slice-aggregate-mark
 slice-aggregate-mark c = search needs
 
-cast-mark : tie.Need-cast-mark
-cast-mark c = search needs
-
 mark-requires : tie.Need-mark-requires
 mark-requires c κs = search needs
 
@@ -38,7 +35,6 @@ find-links-spec =
     slice-aggregate-spans
     spans-requires
     slice-aggregate-mark
-    cast-mark
     mark-requires
     same-length
     returns)

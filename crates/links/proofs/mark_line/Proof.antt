@@ -39,6 +39,9 @@ mul-mark-of-2 c = omega arith
 shared-slice-read-mark-of : tie.Need-shared-slice-read-mark-of Inv-loop μ-loop
 shared-slice-read-mark-of c = omega arith
 
+cast-mark-of : tie.Need-cast-mark-of Inv-loop μ-loop
+cast-mark-of c = omega arith
+
 mark-of-requires : tie.Need-mark-of-requires Inv-loop μ-loop
 mark-of-requires c κs = omega arith
 
@@ -89,6 +92,7 @@ mark-line-spec =
     add-mark-of-2
     mul-mark-of-2
     shared-slice-read-mark-of
+    cast-mark-of
     mark-of-requires
     add-area
     mul-area
