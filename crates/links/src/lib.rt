@@ -3,7 +3,7 @@
 
 ghost use mathlib.Core.Path.{_≡_};
 ghost use mathlib.Core.Bool.{cond};
-ghost use Prim.Native.Nat.{_≤_, _<_};
+ghost use Prim.Native.Nat.{_+_, _*_, _≤_, _<_};
 ghost use lib.Dec.{eqb};
 ghost use lib.ListN.{length};
 ghost use Rattle.distances.specs.Area.{Written, Line};
@@ -27,7 +27,7 @@ fn mark_of(distance: u16, span: u16, epsilon: u16) -> u16
 
 // The marks of type j and the types before it.
 fn mark_line(area: &mut [u16], spans: &[u16], epsilon: usize, j: usize)
-    requires { ⌜ (epsilon ≤ 65535) × (j < 128) × (16384 ≤ length (now area)) × (16384 ≤ length (now spans)) ⌝ }
+    requires { ⌜ (epsilon ≤ 65535) × (j < 128) × (16384 ≤ length (now area)) × (128 * j + 128 ≤ length (now spans)) ⌝ }
     ensures { λ _. ⌜ Written (Line j j) (mark epsilon (now (spans .entry)) (now (area .entry))) (now (area .entry)) (now (area .exit)) ⌝ }
 {
     let from = 128 * j;
@@ -40,7 +40,7 @@ fn mark_line(area: &mut [u16], spans: &[u16], epsilon: usize, j: usize)
 
 // The marks of n types whose mirror cells hold their distances.
 fn mark(area: &mut [u16], spans: &[u16], n: usize, epsilon: usize)
-    requires { ⌜ (epsilon ≤ 65535) × (n ≤ 128) × (16384 ≤ length (now area)) × (16384 ≤ length (now spans)) ⌝ }
+    requires { ⌜ (epsilon ≤ 65535) × (n ≤ 128) × (16384 ≤ length (now area)) × (128 * n ≤ length (now spans)) ⌝ }
     ensures { λ _. ⌜ Written (Mirror n) (mark epsilon (now (spans .entry)) (now (area .entry))) (now (area .entry)) (now (area .exit)) ⌝ }
 {
     let mut j = 0;
@@ -50,14 +50,27 @@ fn mark(area: &mut [u16], spans: &[u16], n: usize, epsilon: usize)
     }
 }
 
-// The links of n types at epsilon. What the spans' area holds at first does not matter.
+// The links of n types at epsilon, by their spans.
+fn link(area: &mut [u16], all: &mut [u16], n: usize, epsilon: usize)
+    requires { ⌜ (epsilon ≤ 65535) × (n ≤ 128) × (16384 ≤ length (now area)) × (128 * n ≤ length (now all)) ⌝ }
+    ensures { λ _. ⌜ LinksFound n epsilon (now (area .entry)) (now (area .exit)) ⌝ }
+{
+    spans(area, all, n);
+    mark(area, all, n, epsilon);
+}
+
+// The links of n types at epsilon. The spans of few types get little room: what it holds at first does not matter, but is written.
 pub fn find_links(area: &mut [u16], n: usize, epsilon: usize)
     requires { ⌜ (epsilon ≤ 65535) × (n ≤ 128) × (16384 ≤ length (now area)) ⌝ }
     ensures { λ _. ⌜ LinksFound n epsilon (now (area .entry)) (now (area .exit)) ⌝ }
 {
-    let mut all = [256u16; 16384];
-    spans(area, &mut all, n);
-    mark(area, &all, n, epsilon);
+    if n <= 16 {
+        let mut few = [256u16; 2048];
+        link(area, &mut few, n, epsilon);
+    } else {
+        let mut all = [256u16; 16384];
+        link(area, &mut all, n, epsilon);
+    }
 }
 
 // Whether two types are linked.

@@ -4,7 +4,7 @@
 // its mirror cells, so that a type's line holds all its distances. The spans are written to a lent area of their own.
 
 ghost use mathlib.Core.Path.{_≡_};
-ghost use Prim.Native.Nat.{ℕ, _+_, _≤_, _<_, min, max};
+ghost use Prim.Native.Nat.{ℕ, _+_, _*_, _≤_, _<_, min, max};
 ghost use lib.ListN.{length, getD};
 ghost use Rattle.distances.specs.Area.{cellAt, Written, Line};
 ghost use Rattle.spans.specs.Tree.{between, mirrored, Mirror, opposite, Spanned};
@@ -143,7 +143,7 @@ fn find(wide: usize, near: &[u16], inside: &[u16], x: u16) -> usize
 
 // Type v joins by a step: its spans with the types of the tree.
 fn join_line(spans: &mut [u16], wide: usize, reach: &mut [u16], v: usize, step: u16)
-    requires { ⌜ (wide ≤ 128) × (v < 128) × (length (now reach) ≡ 128) × (16384 ≤ length (now spans)) ⌝ }
+    requires { ⌜ (wide ≤ 128) × (length (now reach) ≡ 128) × (128 * v + 128 ≤ length (now spans)) ⌝ }
     ensures { λ _. ⌜ Filled wide (λ u. max (getD (now (reach .entry)) u 0) step) (now (reach .entry)) (now (reach .exit))
         × Written (Line v wide) (λ i u. max (getD (now (reach .entry)) u 0) step) (now (spans .entry)) (now (spans .exit)) ⌝ }
 {
@@ -159,7 +159,7 @@ fn join_line(spans: &mut [u16], wide: usize, reach: &mut [u16], v: usize, step: 
 
 // A step from type v to the types that joined behind it: its spans with them.
 fn settle_line(spans: &mut [u16], wide: usize, reach: &mut [u16], v: usize, step: u16)
-    requires { ⌜ (wide ≤ 128) × (v < 128) × (length (now reach) ≡ 128) × (16384 ≤ length (now spans)) ⌝ }
+    requires { ⌜ (wide ≤ 128) × (length (now reach) ≡ 128) × (128 * v + 128 ≤ length (now spans)) ⌝ }
     ensures { λ _. ⌜ Filled wide (λ u. max (getD (now (reach .entry)) u 0) step) (now (reach .entry)) (now (reach .exit))
         × Written (Line v wide) (λ i u. min (cellAt (now (spans .entry)) i u) (max (getD (now (reach .entry)) u 0) step))
         (now (spans .entry)) (now (spans .exit)) ⌝ }
@@ -177,7 +177,7 @@ fn settle_line(spans: &mut [u16], wide: usize, reach: &mut [u16], v: usize, step
 // The tree grows: the order in which types join, their steps, and their spans with the types before them.
 fn grow(area: &[u16], spans: &mut [u16], n: usize, order: &mut [usize], steps: &mut [u16])
     requires { ⌜ (n ≤ 128) × (length (now order) ≡ 128) × (length (now steps) ≡ 128) × Full n (now area)
-        × (16384 ≤ length (now area)) × (16384 ≤ length (now spans)) ⌝ }
+        × (16384 ≤ length (now area)) × (128 * n ≤ length (now spans)) ⌝ }
     ensures { λ _. ⌜ Grown n (now (area .entry)) (now (spans .entry)) (now (spans .exit)) (now (order .exit)) (now (steps .exit)) ⌝ }
 {
     let wide = lanes(n);
@@ -202,7 +202,7 @@ fn grow(area: &[u16], spans: &mut [u16], n: usize, order: &mut [usize], steps: &
 // The spans of each type with the types that joined behind it, from the last type back.
 fn settle(spans: &mut [u16], n: usize, order: &[usize], steps: &[u16])
     requires { ⌜ (n ≤ 128) × (length (now order) ≡ 128) × (length (now steps) ≡ 128) × Lined n (now order) (now steps) (now spans)
-        × (16384 ≤ length (now spans)) ⌝ }
+        × (128 * n ≤ length (now spans)) ⌝ }
     ensures { λ _. ⌜ Settled n (now (order .entry)) (now (steps .entry)) (now (spans .entry)) (now (spans .exit)) ⌝ }
 {
     let wide = lanes(n);
@@ -219,7 +219,7 @@ fn settle(spans: &mut [u16], n: usize, order: &[usize], steps: &[u16])
 
 // The spans of n types, each in both of its cells, and their distances in both of theirs.
 pub fn spans(area: &mut [u16], spans: &mut [u16], n: usize)
-    requires { ⌜ (n ≤ 128) × (16384 ≤ length (now area)) × (16384 ≤ length (now spans)) ⌝ }
+    requires { ⌜ (n ≤ 128) × (16384 ≤ length (now area)) × (128 * n ≤ length (now spans)) ⌝ }
     ensures { λ _. ⌜ Written (Mirror n) (opposite (now (area .entry))) (now (area .entry)) (now (area .exit))
         × Spanned n (now (area .entry)) (now (spans .entry)) (now (spans .exit)) ⌝ }
 {

@@ -56,7 +56,7 @@ join-line-requires : tie.Need-join-line-requires Inv-loop μ-loop
 join-line-requires c κs =
     let t = c .before .before in
     let g = t .before .loop .inv in
-    (omega (arith, given t), omega (arith, given t, typed t), g .reach-size, omega (arith, g .spans-size))
+    (omega (arith, given t), g .reach-size, omega (arith, typed t, g .spans-size))
 
 mul-reach : tie.Need-mul-reach Inv-loop μ-loop
 mul-reach c = let t = c .before .before .before .before .before .before in omega (arith, given t, typed t)

@@ -66,7 +66,7 @@ settle-line-requires c κs =
     let t = c .before .before .before .before .before in
     let (h, size, long, s) = t .before .loop .inv in
     let before = typed t (t .before .loop .k - 1 - 1) (omega arith) in
-    (omega (arith, t .before .before .lanes .ensures), omega (arith, before), rw length-set long, omega arith)
+    (omega (arith, t .before .before .lanes .ensures), rw length-set long, omega arith)
 
 loop-less : tie.Need-loop-less Inv-loop μ-loop
 loop-less c = omega arith
