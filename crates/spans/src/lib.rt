@@ -10,18 +10,6 @@ ghost use Rattle.distances.specs.Area.{cellAt, Written, Line};
 ghost use Rattle.spans.specs.Tree.{between, mirrored, Mirror, opposite, Spanned};
 ghost use Rattle.spans.specs.Growth.{Part, Full, Filled, nearer, Least, Placed, Found, Lined, Grown, Settled};
 
-// The distance of two types.
-pub fn between(area: &[u16], i: usize, j: usize) -> u16
-    requires { ⌜ (i < 128) × (j < 128) × (16384 ≤ length (now area)) ⌝ }
-    ensures { λ r. ⌜ r ≡ between (now (area .entry)) i j ⌝ }
-{
-    if i < j {
-        area[128 * i + j]
-    } else {
-        area[128 * j + i]
-    }
-}
-
 // The mirror cell of two types.
 pub fn mirrored(i: usize, j: usize) -> usize
     requires { ⌜ (i < 128) × (j < 128) ⌝ }
@@ -67,12 +55,13 @@ fn mirror_line(area: &mut [u16], j: usize)
     requires { ⌜ (j < 128) × (16384 ≤ length (now area)) ⌝ }
     ensures { λ _. ⌜ Written (Line j j) (opposite (now (area .entry))) (now (area .entry)) (now (area .exit)) ⌝ }
 {
-    let mut i = 0;
-    while i + 8 <= j {
-        mirror_part(area, j, i, i + 8);
-        i += 8;
+    let parts = j / 8;
+    let mut k = 0;
+    while k < parts {
+        mirror_part(area, j, 8 * k, 8 * k + 8);
+        k += 1;
     }
-    mirror_part(area, j, i, j);
+    mirror_part(area, j, 8 * parts, j);
 }
 
 // The mirror cells of n types hold their distances.
