@@ -103,7 +103,7 @@ fn approach(area: &[u16], wide: usize, near: &mut [u16], inside: &[u16], v: usiz
     while u < wide {
         let far = lesser(area[from + u], near[u]);
         near[u] = far;
-        least = lesser(longer(far, inside[u]), least);
+        least = lesser(least, longer(far, inside[u]));
         u += 1;
     }
     least
@@ -139,7 +139,7 @@ fn join_line(spans: &mut [u16], wide: usize, reach: &mut [u16], v: usize, step: 
     let to = 128 * v;
     let mut u = 0;
     while u < wide {
-        let far = longer(reach[u], step);
+        let far = longer(step, reach[u]);
         reach[u] = far;
         spans[to + u] = far;
         u += 1;
@@ -156,7 +156,7 @@ fn settle_line(spans: &mut [u16], wide: usize, reach: &mut [u16], v: usize, step
     let to = 128 * v;
     let mut u = 0;
     while u < wide {
-        let far = longer(reach[u], step);
+        let far = longer(step, reach[u]);
         reach[u] = far;
         spans[to + u] = lesser(spans[to + u], far);
         u += 1;
