@@ -3,13 +3,15 @@
 // error, and no network.
 
 ghost use mathlib.Core.Path.{_≡_};
+ghost use Prim.Native.Nat.{_≤_};
 ghost use lib.ListN.{length};
 ghost use Rattle.hurdlesong_fasta.specs.Fits.{Fits};
 use fasta_service::answer_fasta;
+use memory::copy;
 use numerals::Numeral;
 use numerals::read_number;
 
-// What came of reading a text: all of it, so many bytes; more than there is room for; or a read that failed.
+// What came of reading a text: all of it, so many bytes; as much as there is room for; or a read that failed.
 enum Input {
     Whole { length: usize },
     Long,
@@ -28,36 +30,34 @@ fn print(answer: &[u8]) {
     }
 }
 
-// A mebibyte of zeros, which is the longest text. Its length is all that is known of it, so that no proof goes through so many zeros.
-fn mebibyte() -> [u8; 1048576]
-    ensures { λ r. ⌜ 1048576 ≡ length r ⌝ }
+// Zeros for a mebibyte, which is the longest text, and a byte, by which a longer one is seen. Their number is all that is known of them, so
+// that no proof goes through so many zeros.
+fn mebibyte() -> [u8; 1048577]
+    ensures { λ r. ⌜ 1048577 ≡ length r ⌝ }
 {
-    [0; 1048576]
+    [0; 1048577]
 }
 
-// Reads a text to its end. A read that fails is not taken for the end, since what came before it is a part of a text and not the text.
-// Each turn but the last adds a byte or more, so the room that is left falls.
-fn read_text(fd: i32, text: &mut [u8]) -> Input
+// Reads a text to its end, behind what was read of it; a text that leaves no byte free may go on. A read that fails is not taken for the
+// end, since what came before it is a part of a text and not the text. Each turn but the last adds a byte or more, so the room that is left
+// falls.
+fn read_text(fd: i32, text: &mut [u8], from: usize) -> Input
+    requires { ⌜ from ≤ length (now text) ⌝ }
     ensures { λ r. ⌜ Fits r (now (text .exit)) ⌝ }
 {
-    let mut space = io::large_buffer();
-    let chunk: &mut [u8] = &mut space;
-    let mut done = 0;
-    loop {
-        let got = libc::read(fd, chunk);
+    let mut done = from;
+    while done < text.len() {
+        let got = libc::read(fd, &mut text[done..]);
         if got < 0 {
             return Input::Failed;
         }
-        let more = io::count(got, chunk);
+        let more = io::count(got, &text[done..]);
         if more == 0 {
             return Input::Whole { length: done };
         }
-        if text.len() - done < more {
-            return Input::Long;
-        }
-        memory::copy(&chunk[..more], text, done);
         done += more;
     }
+    Input::Long
 }
 
 // The network of a text, in memory for the longest text of an answer.
@@ -67,12 +67,23 @@ fn answer(text: &[u8], epsilon: u16) {
     print(&out[0..used]);
 }
 
-// The text that a descriptor hands out, of at most a mebibyte.
-fn answer_from(fd: i32, epsilon: u16) {
+// The text that a descriptor hands out, of at most a mebibyte, the front of which is read.
+fn answer_long(fd: i32, front: &[u8; 2047], epsilon: u16) {
     let mut text = mebibyte();
-    match read_text(fd, &mut text) {
+    copy(front, &mut text, 0);
+    match read_text(fd, &mut text, 2047) {
         Input::Whole { length } => answer(&text[..length], epsilon),
         Input::Long => complain(b"hurdlesong_fasta: the text is longer than 1048576 bytes\n"),
+        Input::Failed => complain(b"hurdlesong_fasta: the text could not be read\n"),
+    }
+}
+
+// Most texts are short, and a mebibyte takes longer to make than they take to answer: so a text is read to little memory first.
+fn answer_from(fd: i32, epsilon: u16) {
+    let mut text = [0u8; 2047];
+    match read_text(fd, &mut text, 0) {
+        Input::Whole { length } => answer(&text[..length], epsilon),
+        Input::Long => answer_long(fd, &text, epsilon),
         Input::Failed => complain(b"hurdlesong_fasta: the text could not be read\n"),
     }
 }

@@ -1,12 +1,9 @@
--- `hurdlesong_fasta::answer_from` is safe: a text that was read whole lies within the mebibyte.
+-- `hurdlesong_fasta::answer_from` is safe: a text that was read whole lies within the memory that it was read to.
 use mathlib.Core.Path.{sym}
 use lib.Seq.{length-take-le}
 use borrow.Author.Needs.{needs}
 use Rattle.hurdlesong_fasta.proofs.answer_from.Statement.{statement}
 use Rattle.hurdlesong_fasta.proofs.answer_from.Tie as tie
-
-mebibyte-requires : tie.Need-mebibyte-requires
-mebibyte-requires c κs = search needs
 
 slice-aggregate-read-text : tie.Need-slice-aggregate-read-text
 slice-aggregate-read-text c = search needs
@@ -32,20 +29,17 @@ answer-requires c κs = search needs
 enum-told : tie.Need-enum-told
 enum-told c = search needs
 
+answer-long-requires : tie.Need-answer-long-requires
+answer-long-requires c κs = search needs
+
+enum-told-2 : tie.Need-enum-told-2
+enum-told-2 c = search needs
+
 slice-aggregate-complain : tie.Need-slice-aggregate-complain
 slice-aggregate-complain c = search needs
 
 complain-requires : tie.Need-complain-requires
 complain-requires c κs = search needs
-
-enum-told-2 : tie.Need-enum-told-2
-enum-told-2 c = search needs
-
-slice-aggregate-complain-2 : tie.Need-slice-aggregate-complain-2
-slice-aggregate-complain-2 c = search needs
-
-complain-requires-2 : tie.Need-complain-requires-2
-complain-requires-2 c κs = search needs
 
 returns : tie.Need-returns
 returns c = search needs
@@ -60,7 +54,6 @@ pub answer-from-spec : {M : Type 1} → statement M
 answer-from-spec =
     tie.close
     (tie.spec
-    mebibyte-requires
     slice-aggregate-read-text
     read-text-requires
     enum-known-length
@@ -68,11 +61,10 @@ answer-from-spec =
     slice-aggregate-answer
     answer-requires
     enum-told
+    answer-long-requires
+    enum-told-2
     slice-aggregate-complain
     complain-requires
-    enum-told-2
-    slice-aggregate-complain-2
-    complain-requires-2
     returns
     returns-2
     returns-3)

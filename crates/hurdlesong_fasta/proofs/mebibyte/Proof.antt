@@ -6,7 +6,7 @@ use Rattle.hurdlesong_fasta.proofs.mebibyte.Statement.{statement}
 use Rattle.hurdlesong_fasta.proofs.mebibyte.Tie as tie
 
 returns : tie.Need-returns
-returns c = sym (length-replicate {A = ℕ} 1048576 0)
+returns c = sym (length-replicate {A = ℕ} 1048577 0)
 
 pub mebibyte-spec : {M : Type 1} → statement M
 mebibyte-spec = tie.close (tie.spec returns)
