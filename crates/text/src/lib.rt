@@ -20,7 +20,7 @@ use memory::clear_bytes;
 use memory::word_at;
 use rules::Answer;
 
-// How a text ends: with so many bytes; without room for every text that there can be; or without a result block of this job to print.
+// How a text ends: with so many bytes; without the room that is asked for; or without a result block of this job to print.
 pub enum Printed {
     Done { used: usize },
     Room,
