@@ -26,7 +26,7 @@ use Rattle.search.specs.declared.Search.{Search}
 use Rattle.search.specs.Swept.{Gathered, Swept}
 use Rattle.sweep.specs.Candidate.{Candidate, Faithful, Everywhere}
 use Rattle.candidates.specs.declared.Added.{Added}
-use Rattle.candidates.specs.Fresh.{InWindow, All, TooMany, Fresh, NoneFits}
+use Rattle.candidates.specs.Fresh.{withRows, InWindow, All, TooMany, Fresh, NoneFits}
 use Rattle.sweep.proofs.Dropped.{gives-small}
 use Rattle.sweep.proofs.Seated.{candidate-met}
 
@@ -96,7 +96,7 @@ module _ {ws : List ℕ} {states : Bytes} {area : List ℕ} {n made : ℕ} where
 
     -- There is no candidate.
     pub fresh-none : (e : ℕ) → Weighed ws → n ≤ made → made ≤ 128 → 64 * made ≤ length states → least .below ≡ 128001 →
-        Fresh ws states area n made e (record { rows = found₁; count = 0; full = false })
+        Fresh ws states area n made e (withRows found₁ 0)
     fresh-none e weighed few room lie high = record {
       size = first .size ∙ simp length-replicate;
       room = omega arith;
@@ -176,7 +176,7 @@ module _ {ws : List ℕ} {states : Bytes} {area : List ℕ} {n made : ℕ} where
 
       -- There is room for all.
       pub fresh-all : all .full ≡ false → {rows : Bytes} → rows ≡ placed found₂ 0 (laid (sorted (all .count) (storedAt found₂))) →
-          Fresh ws states area n made e (record { rows = rows; count = all .count; full = false })
+          Fresh ws states area n made e (withRows rows (all .count))
       fresh-all open-is {rows} sorts = record {
         size = ap length sorts ∙ length-placed found₂ _ 0 (omega (arith, long, second .room, size)) ∙ size;
         room = omega (arith, second .room, second .made-stays);

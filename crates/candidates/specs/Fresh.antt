@@ -15,7 +15,10 @@ use Rattle.triplets.specs.Followers.{Followers}
 use Rattle.sweep.specs.Candidate.{Candidate, Faithful}
 use Rattle.candidates.specs.declared.Added.{Added}
 
--- No row, because there is no room.
+-- So many rows; and no row, because there is no room.
+abbrev pub withRows : Bytes → ℕ → Added
+withRows rows count = record { rows = rows; count = count; full = false }
+
 abbrev pub NoneFits : Added → Type 0
 NoneFits r = (r .rows ≡ replicate 8192 0) × (r .count ≡ 0) × (r .full ≡ true)
 

@@ -6,7 +6,7 @@ ghost use Prim.Native.Nat.{_*_, _≤_, _<_};
 ghost use lib.ListN.{length};
 ghost use Rattle.distances.specs.Area.{Weighed};
 ghost use Rattle.sweep.specs.Candidate.{Worded};
-ghost use Rattle.candidates.specs.Fresh.{NoneFits, Choosing, Fresh};
+ghost use Rattle.candidates.specs.Fresh.{withRows, NoneFits, Choosing, Fresh};
 use ascending::ascending;
 use known::guess_all;
 use search::Search;
@@ -32,8 +32,19 @@ fn none_fits() -> Added
     }
 }
 
+// So many rows are added.
+fn with_rows(rows: [u8; 8192], count: usize) -> Added
+    ensures { λ r. ⌜ r ≡ withRows rows count ⌝ }
+{
+    Added {
+        rows,
+        count,
+        full: false,
+    }
+}
+
 // All candidates of a cost of at most lambda and epsilon, each once, ascending by their bytes; n types are current, and who is linked
-// with them is known.
+// with them is known. Of the floors nothing is known at first.
 fn choose(
     states: &[u8],
     area: &[u16],
@@ -51,7 +62,6 @@ fn choose(
 {
     let mut guesses = guess_all(states, made);
     let mut rows = [0u8; 8192];
-    // nothing is known of the costs at a type yet
     let mut floors = [0usize; 128];
     let any = Search::for_lambda(made);
     let least = sweep(
@@ -69,11 +79,7 @@ fn choose(
         any,
     );
     if least.below == any.below {
-        return Added {
-            rows,
-            count: 0,
-            full: false,
-        };
+        return with_rows(rows, 0);
     }
     let window = Search::for_all(made, least.below + epsilon + 1);
     let all = sweep(
@@ -94,11 +100,7 @@ fn choose(
         return none_fits();
     }
     ascending(&mut rows, all.count);
-    Added {
-        rows,
-        count: all.count,
-        full: false,
-    }
+    with_rows(rows, all.count)
 }
 
 // The same, with memory for words and hints of the rows made.

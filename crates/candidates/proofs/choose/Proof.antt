@@ -86,14 +86,18 @@ sweep-requires c κs =
       floors-first,
     )
 
+with-rows-requires : tie.Need-with-rows-requires
+with-rows-requires c κs = search needs
+
 same-length : tie.Need-same-length
-same-length c = c .before .before .before .before .before .before .before .before .sweep .ensures .0 .masks-size
+same-length c = c .before .before .before .before .before .before .before .before .before .sweep .ensures .0 .masks-size
 
 returns : tie.Need-returns
 returns c =
-    let s = c .before .before .before .before .before .before .before .before in
+    let s = c .before .before .before .before .before .before .before .before .before in
     let p = start s .pre .0 in
-    fresh-none (swept s) (start s .args .epsilon) (p .weighed) (p .current) (p .few) (p .lie) (c .if1 .taken ∙ lambda-from s)
+    rw (c .with-rows .ensures)
+    (fresh-none (swept s) (start s .args .epsilon) (p .weighed) (p .current) (p .few) (p .lie) (c .before .if1 .taken ∙ lambda-from s))
 
 add-for-all : tie.Need-add-for-all
 add-for-all c = let s = c .before .before .before .before .before .before .before .before .before in omega (arith, swept s .no-higher, start s .pre .0 .small)
@@ -151,14 +155,18 @@ slice-aggregate-ascending c = search needs
 ascending-requires : tie.Need-ascending-requires
 ascending-requires c κs = search needs
 
+with-rows-requires-2 : tie.Need-with-rows-requires-2
+with-rows-requires-2 c κs = search needs
+
 same-length-3 : tie.Need-same-length-3
-same-length-3 c = kept-both (c .before .before .before .before .before .before .before .before .before)
+same-length-3 c = kept-both (c .before .before .before .before .before .before .before .before .before .before)
 
 returns-3 : tie.Need-returns-3
 returns-3 c =
-    let s = c .before .before .before .before .before .before .before .before .before in
+    let s = c .before .before .before .before .before .before .before .before .before .before in
     let f = first s in
-    fresh-all (swept f) (start f .args .epsilon) (not-lambda s) (all-swept s) (c .before .before .before .if2 .left) (c .before .ascending .ensures)
+    rw (c .with-rows2 .ensures)
+    (fresh-all (swept f) (start f .args .epsilon) (not-lambda s) (all-swept s) (c .before .before .before .before .if2 .left) (c .before .before .ascending .ensures))
 
 pub choose-spec : {M : Type 1} → statement M
 choose-spec =
@@ -170,6 +178,7 @@ choose-spec =
     slice-aggregate-sweep-2
     slice-aggregate-sweep-3
     sweep-requires
+    with-rows-requires
     same-length
     returns
     add-for-all
@@ -184,5 +193,6 @@ choose-spec =
     returns-2
     slice-aggregate-ascending
     ascending-requires
+    with-rows-requires-2
     same-length-3
     returns-3)
