@@ -5,7 +5,7 @@ use Prim.Native.Nat.{ℕ, zero, suc, _+_, _-_, _≤_, _<_}
 use native.Mathlib.Nat.{add-zero, zero-add, add-assoc, sub-zero, zero-sub, suc-sub-suc}
 use native.Mathlib.Numerals.{add-one}
 use native.Mathlib.Omega.{arith}
-use lib.ListN.{length, take, drop, set, getD, replicate, length-append, length-drop, take-append-drop, drop-of-length-le}
+use lib.ListN.{length, take, drop, set, getD, replicate, length-append, length-drop, length-replicate, replicate-append-replicate, take-append-drop, drop-of-length-le}
 use lib.Seq.{length-take-le, take-suc, drop-cons, set-at, append-snoc, take-at, take-append-le, take-take, drop-append-add, drop-drop, getD-take, getD-drop}
 use Rattle.graph.specs.Below.{table}
 use Rattle.graph.proofs.Below.{length-table, table-more}
@@ -90,6 +90,15 @@ module _ {A : Type 0} where
 front-more : (b now xs : List ℕ) (i v : ℕ) → length xs ≡ i → i < length b → now ≡ placed b 0 xs → set now i v ≡ placed b 0 (xs ++ (v ∷ []))
 front-more b now xs i v l h e =
     ap₂ (λ (n : List ℕ) (k : ℕ). set n k v) e (sym (zero-add i)) ∙ placed-more b xs 0 i v l (omega arith)
+
+-- Zeros at the front: one more, and all.
+module _ (b now : List ℕ) (i : ℕ) where
+  pub zeros-more : i < length b → now ≡ placed b 0 (replicate i 0) → set now i 0 ≡ placed b 0 (replicate (i + 1) 0)
+  zeros-more h e =
+      front-more b now (replicate i 0) i 0 (length-replicate i 0) h e ∙ ap (placed b 0) (replicate-append-replicate {A = ℕ} i 1 0)
+
+  pub zeros-all : i ≡ length b → now ≡ placed b 0 (replicate i 0) → now ≡ replicate (length b) 0
+  zeros-all h e = e ∙ rw h (placed-whole b (replicate (length b) 0) (length-replicate (length b) 0))
 
 -- A table at the front: one element more.
 pub table-front : (b now : List ℕ) (i v : ℕ) (f : ℕ → ℕ) → i < length b → now ≡ placed b 0 (table i f) → v ≡ f i →

@@ -1,3 +1,2 @@
-pub mod Cleared
 pub mod Placed
 pub mod Word

@@ -1,23 +1,21 @@
--- `memory::clear_bytes` meets its contract: each store is one zero more, behind the parts.
-use Prim.Native.Nat.{_-_}
+-- `memory::clear_bytes` meets its contract: so many zeros stand at the front.
+use mathlib.Core.Path.{_≡_}
+use Prim.Native.Nat.{_-_, _≤_}
 use native.Mathlib.Omega.{arith}
-use lib.ListN.{length}
-use Rattle.memory.specs.Cleared.{Cleared}
-use Rattle.memory.proofs.Cleared.{cleared-more, cleared-so-far, cleared-on, cleared-all}
+use lib.ListN.{length, length-set, replicate}
+use Rattle.memory.specs.Placed.{placed}
+use Rattle.memory.proofs.Placed.{placed-none, zeros-more, zeros-all}
 use Rattle.memory.proofs.clear_bytes.Statement.{statement}
 use Rattle.memory.proofs.clear_bytes.Tie as tie
 
 abbrev Inv-loop : tie.InvT-loop
-Inv-loop b₀ i₀ b i = Cleared b₀ i b
+Inv-loop b₀ i₀ b i = (i ≤ length b₀) × (length b ≡ length b₀) × (b ≡ placed b₀ 0 (replicate i 0))
 
 abbrev μ-loop : tie.MeasureT-loop
 μ-loop b₀ i₀ b i = length b₀ - i
 
-clear-parts-requires : tie.Need-clear-parts-requires Inv-loop μ-loop
-clear-parts-requires c κs = tt
-
 loop-holds : tie.Need-loop-holds Inv-loop μ-loop
-loop-holds c = cleared-so-far (c .before .before .clear-parts .ensures)
+loop-holds c = (omega arith, omega arith, placed-none _ 0)
 
 slice-write-b : tie.Need-slice-write-b Inv-loop μ-loop
 slice-write-b c = omega arith
@@ -29,17 +27,15 @@ loop-less : tie.Need-loop-less Inv-loop μ-loop
 loop-less c = omega arith
 
 loop-again : tie.Need-loop-again Inv-loop μ-loop
-loop-again c = cleared-more (c .before .loop .inv) (omega arith)
-
--- What the loop and the parts before it have cleared.
-both : (c : tie.After-loop Inv-loop μ-loop) → Cleared (c .before .before .before .before .before .before .before .args .b .now) (c .before .loop .i) (c .before .loop .b)
-both c = cleared-on (c .before .before .before .before .clear-parts .ensures) (c .before .loop .inv)
+loop-again c =
+    let l = c .before .loop in
+    (omega arith, simp length-set (l .inv .1), zeros-more (c .before .before .args .b .now) (l .b) (l .i) (omega arith) (l .inv .2))
 
 same-length : tie.Need-same-length Inv-loop μ-loop
-same-length c = both c .long
+same-length c = omega arith
 
 returns : tie.Need-returns Inv-loop μ-loop
-returns c = cleared-all (both c) (omega (arith, both c .long))
+returns c = zeros-all _ _ (c .before .loop .i) (omega arith) (c .before .loop .inv .2)
 
 pub clear-bytes-spec : {M : Type 1} → statement M
-clear-bytes-spec = tie.close (tie.spec Inv-loop μ-loop clear-parts-requires loop-holds slice-write-b add-i loop-less loop-again same-length returns)
+clear-bytes-spec = tie.close (tie.spec Inv-loop μ-loop loop-holds slice-write-b add-i loop-less loop-again same-length returns)

@@ -1,23 +1,21 @@
--- `memory::clear_words` meets its contract: each store is one zero more, behind the parts.
-use Prim.Native.Nat.{_-_}
+-- `memory::clear_words` meets its contract: so many zeros stand at the front.
+use mathlib.Core.Path.{_≡_}
+use Prim.Native.Nat.{_-_, _≤_}
 use native.Mathlib.Omega.{arith}
-use lib.ListN.{length}
-use Rattle.memory.specs.Cleared.{Cleared}
-use Rattle.memory.proofs.Cleared.{cleared-more, cleared-so-far, cleared-on, cleared-all}
+use lib.ListN.{length, length-set, replicate}
+use Rattle.memory.specs.Placed.{placed}
+use Rattle.memory.proofs.Placed.{placed-none, zeros-more, zeros-all}
 use Rattle.memory.proofs.clear_words.Statement.{statement}
 use Rattle.memory.proofs.clear_words.Tie as tie
 
 abbrev Inv-loop : tie.InvT-loop
-Inv-loop w₀ i₀ w i = Cleared w₀ i w
+Inv-loop w₀ i₀ w i = (i ≤ length w₀) × (length w ≡ length w₀) × (w ≡ placed w₀ 0 (replicate i 0))
 
 abbrev μ-loop : tie.MeasureT-loop
 μ-loop w₀ i₀ w i = length w₀ - i
 
-clear-words-parts-requires : tie.Need-clear-words-parts-requires Inv-loop μ-loop
-clear-words-parts-requires c κs = tt
-
 loop-holds : tie.Need-loop-holds Inv-loop μ-loop
-loop-holds c = cleared-so-far (c .before .before .clear-words-parts .ensures)
+loop-holds c = (omega arith, omega arith, placed-none _ 0)
 
 mul-w : tie.Need-mul-w Inv-loop μ-loop
 mul-w c = omega arith
@@ -32,17 +30,15 @@ loop-less : tie.Need-loop-less Inv-loop μ-loop
 loop-less c = omega arith
 
 loop-again : tie.Need-loop-again Inv-loop μ-loop
-loop-again c = cleared-more (c .before .loop .inv) (omega arith)
-
--- What the loop and the parts before it have cleared.
-both : (c : tie.After-loop Inv-loop μ-loop) → Cleared (c .before .before .before .before .before .before .before .args .w .now) (c .before .loop .i) (c .before .loop .w)
-both c = cleared-on (c .before .before .before .before .clear-words-parts .ensures) (c .before .loop .inv)
+loop-again c =
+    let l = c .before .loop in
+    (omega arith, simp length-set (l .inv .1), zeros-more (c .before .before .args .w .now) (l .w) (l .i) (omega arith) (l .inv .2))
 
 same-length : tie.Need-same-length Inv-loop μ-loop
-same-length c = both c .long
+same-length c = omega arith
 
 returns : tie.Need-returns Inv-loop μ-loop
-returns c = cleared-all (both c) (omega (arith, both c .long))
+returns c = zeros-all _ _ (c .before .loop .i) (omega arith) (c .before .loop .inv .2)
 
 pub clear-words-spec : {M : Type 1} → statement M
-clear-words-spec = tie.close (tie.spec Inv-loop μ-loop clear-words-parts-requires loop-holds mul-w slice-write-w add-i loop-less loop-again same-length returns)
+clear-words-spec = tie.close (tie.spec Inv-loop μ-loop loop-holds mul-w slice-write-w add-i loop-less loop-again same-length returns)
