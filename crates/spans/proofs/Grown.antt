@@ -16,7 +16,7 @@ use Rattle.graph.proofs.Growing.{span-sym}
 use Rattle.distances.specs.Area.{cellAt, Written, Line}
 use Rattle.distances.proofs.Area.{cell-kept}
 use Rattle.spans.specs.Tree.{between, Mirror, opposite, Spanned}
-use Rattle.spans.specs.Growth.{Full, Filled, nearer, Least, Fits, Found, Grown, Settled}
+use Rattle.spans.specs.Growth.{Full, Filled, nearer, Least, Fits, Found, Grown, Completed}
 use Rattle.spans.proofs.Growing.{between-sym, Out, Listed, Reached, out-of, outside, some-left, none-left, listed-more, reached-more}
 use Rattle.spans.proofs.Lines.{Lines, lines-more}
 
@@ -222,7 +222,7 @@ module _ {n : ℕ} {before area : List ℕ} (few : n ≤ 128) (w : Written (Mirr
 
   -- The settled stretches are the spans, whichever of two types joined first.
   pub spanned-all : {start grown after order steps : List ℕ} → Grown n area start grown order steps →
-      Settled n order steps grown after → Spanned n before start after
+      Completed n order steps grown after → Spanned n before start after
   spanned-all {after = after} {order} g s = record {
     size = s .size ∙ g .size;
     holds = λ i j hi hj ne.

@@ -10,7 +10,7 @@ use lib.Seq.{getD-set-same, getD-set-other}
 use borrow.Author.Count.{below-more}
 use Rattle.distances.specs.Area.{cellAt, Written, Line}
 use Rattle.distances.proofs.Area.{cell-kept}
-use Rattle.spans.specs.Growth.{Filled, longest, Lined, Settled}
+use Rattle.spans.specs.Growth.{Filled, longest, Lined, Completed}
 use Rattle.spans.proofs.Stretch.{longest-none, longest-by, longest-more, longest-within}
 use Rattle.spans.proofs.Growing.{Out, stretch-kept, stretch-more}
 
@@ -87,7 +87,7 @@ module _ {n : ℕ} {order steps spans : List ℕ} where
   }
 
   pub settling-all : {k : ℕ} {before reach : List ℕ} → k ≤ 1 → length spans ≡ length before →
-      Settling n k (λ i. getD order i 0) (λ i. getD steps i 0) reach spans → Settled n order steps before spans
+      Settling n k (λ i. getD order i 0) (λ i. getD steps i 0) reach spans → Completed n order steps before spans
   settling-all h e s = record { size = e; earlier = s .earlier; later = λ i j. s .settled i j (omega arith) }
 
 -- What `reach` comes to by a step from type v.

@@ -71,7 +71,7 @@ pub record Grown (n : ℕ) (area before spans order steps : List ℕ) : Type 0 w
   pub spanned : (i k : ℕ) → i < k → k < n → spanOf n area (getD order i 0) (getD order k 0) ≡ stretch steps i k
 
 -- The stretches stand in both cells.
-pub record Settled (n : ℕ) (order steps before spans : List ℕ) : Type 0 where
+pub record Completed (n : ℕ) (order steps before spans : List ℕ) : Type 0 where
   pub size : length spans ≡ length before
   pub earlier : (i k : ℕ) → i < k → k < n → cellAt spans (getD order k 0) (getD order i 0) ≡ stretch steps i k
   pub later : (i k : ℕ) → i < k → k < n → cellAt spans (getD order i 0) (getD order k 0) ≡ stretch steps i k

@@ -8,7 +8,7 @@ ghost use Prim.Native.Nat.{ℕ, _+_, _*_, _≤_, _<_, min, max};
 ghost use lib.ListN.{length, getD};
 ghost use Rattle.distances.specs.Area.{cellAt, Written, Line};
 ghost use Rattle.spans.specs.Tree.{between, mirrored, Mirror, opposite, Spanned};
-ghost use Rattle.spans.specs.Growth.{Part, Full, Filled, nearer, Least, Placed, Found, Lined, Grown, Settled};
+ghost use Rattle.spans.specs.Growth.{Part, Full, Filled, nearer, Least, Placed, Found, Lined, Grown, Completed};
 
 // The mirror cell of two types.
 pub fn mirrored(i: usize, j: usize) -> usize
@@ -192,7 +192,7 @@ fn grow(area: &[u16], spans: &mut [u16], n: usize, order: &mut [usize], steps: &
 fn settle(spans: &mut [u16], n: usize, order: &[usize], steps: &[u16])
     requires { ⌜ (n ≤ 128) × (length (now order) ≡ 128) × (length (now steps) ≡ 128) × Lined n (now order) (now steps) (now spans)
         × (128 * n ≤ length (now spans)) ⌝ }
-    ensures { λ _. ⌜ Settled n (now (order .entry)) (now (steps .entry)) (now (spans .entry)) (now (spans .exit)) ⌝ }
+    ensures { λ _. ⌜ Completed n (now (order .entry)) (now (steps .entry)) (now (spans .entry)) (now (spans .exit)) ⌝ }
 {
     let wide = lanes(n);
     let mut reach = [65535u16; 128];
