@@ -1,5 +1,5 @@
 // The printing program: a job from standard input, its network or its refusal to standard output. Most jobs and most texts are short, and
-// large memory takes longer to make than they take to answer: so job and text are in little memory, and in large only where that is too
+// large memory takes longer to make than they take to answer: so job and text are in little memory, and in larger only where that is too
 // little.
 
 ghost use Prim.Native.Nat.{_≤_};
@@ -37,6 +37,11 @@ fn print_short<'a>(job: &'a [u8], block: &'a [u8], answer: Answer) -> bool {
     print_in(job, block, answer, &mut out)
 }
 
+fn print_middle<'a>(job: &'a [u8], block: &'a [u8], answer: Answer) -> bool {
+    let mut out = [0u8; 16384];
+    print_in(job, block, answer, &mut out)
+}
+
 // So much is enough for every text.
 fn print_long<'a>(job: &'a [u8], block: &'a [u8], answer: Answer) -> bool {
     let mut out = [0u8; 172718];
@@ -47,7 +52,7 @@ fn print_long<'a>(job: &'a [u8], block: &'a [u8], answer: Answer) -> bool {
 fn answer(job: &[u8]) {
     let mut result = [0u8; 57680];
     let answer = answer_job(job, &mut result);
-    if !print_short(job, &result, answer) {
+    if !print_short(job, &result, answer) && !print_middle(job, &result, answer) {
         print_long(job, &result, answer);
     }
 }
