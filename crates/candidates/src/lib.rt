@@ -9,6 +9,7 @@ ghost use Rattle.sweep.specs.Candidate.{Worded};
 ghost use Rattle.candidates.specs.Fresh.{withRows, NoneFits, Choosing, Fresh};
 use ascending::ascending;
 use known::guess_all;
+use links::link_count;
 use search::Search;
 use sweep::sweep;
 use triplets::followers;
@@ -163,36 +164,15 @@ fn choose_without_words(
     )
 }
 
-// 1 for the mark of a link.
-fn one(mark: u16) -> u16
-    ensures { λ r. ⌜ r ≤ 1 ⌝ }
-{
-    if mark == 1 { 1 } else { 0 }
-}
-
-// How many types below type i are linked with it.
-fn links_below(area: &[u16], i: usize) -> u16
-    requires { ⌜ (i < 128) × (16384 ≤ length (now area)) ⌝ }
-    ensures { λ r. ⌜ r ≤ i ⌝ }
-{
-    let line = 128 * i;
-    let mut links = 0u16;
-    let mut j = 0;
-    while j < i {
-        links += one(area[line + j]);
-        j += 1;
-    }
-    links
-}
-
-// Whether the types have some four links each, so that words of rows are worth their making. One line of four is looked at.
+// Whether the types have some four links each, so that words of rows are worth their making: either answer is right. Of one type in four
+// the links with the types below it are counted.
 fn many_links(area: &[u16], n: usize) -> bool
     requires { ⌜ (n ≤ 128) × (16384 ≤ length (now area)) ⌝ }
 {
     let mut links = 0usize;
     let mut i = 0;
     while i < n {
-        links += links_below(area, i) as usize;
+        links += link_count(area, i, i);
         i += 4;
     }
     n <= 2 * links

@@ -1,6 +1,8 @@
 -- `candidates::many_links` meets its contract: the sum stays small.
 use Prim.Native.Nat.{_+_, _*_, _-_, _≤_}
 use native.Mathlib.Omega.{arith}
+use Rattle.graph.proofs.Below.{count-le}
+use Rattle.links.specs.Marks.{marked}
 use Rattle.candidates.proofs.many_links.Statement.{statement}
 use Rattle.candidates.proofs.many_links.Tie as tie
 
@@ -10,17 +12,21 @@ Inv-loop area n links₀ i₀ links i = (i ≤ n + 3) × (links ≤ 128 * i)
 abbrev μ-loop : tie.MeasureT-loop
 μ-loop area n links₀ i₀ links i = n - i
 
+-- No more links are counted than there are types below.
+few : (c : tie.After-link-count Inv-loop μ-loop) → c .link-count .result ≤ 128
+few c =
+    let i = c .before .before .loop .i in
+    let a = c .before .before .before .before .args in
+    omega (arith, c .link-count .ensures, count-le i (marked (a .area .now) i), c .before .loop-test .taken)
+
 loop-holds : tie.Need-loop-holds Inv-loop μ-loop
 loop-holds c = omega arith
 
-links-below-requires : tie.Need-links-below-requires Inv-loop μ-loop
-links-below-requires c κs = omega arith
-
-cast-links : tie.Need-cast-links Inv-loop μ-loop
-cast-links c = omega arith
+link-count-requires : tie.Need-link-count-requires Inv-loop μ-loop
+link-count-requires c κs = omega arith
 
 add-links : tie.Need-add-links Inv-loop μ-loop
-add-links c = omega arith
+add-links c = omega (arith, few c)
 
 add-i : tie.Need-add-i Inv-loop μ-loop
 add-i c = omega arith
@@ -29,7 +35,7 @@ loop-less : tie.Need-loop-less Inv-loop μ-loop
 loop-less c = omega arith
 
 loop-again : tie.Need-loop-again Inv-loop μ-loop
-loop-again c = omega arith
+loop-again c = omega (arith, few c)
 
 mul-result : tie.Need-mul-result Inv-loop μ-loop
 mul-result c = omega arith
@@ -44,8 +50,7 @@ many-links-spec =
     Inv-loop
     μ-loop
     loop-holds
-    links-below-requires
-    cast-links
+    link-count-requires
     add-links
     add-i
     loop-less
