@@ -2,17 +2,12 @@
 // the round adds. It reads the state area and the distance area.
 
 ghost use mathlib.Core.Path.{_≡_};
-ghost use Prim.Native.Nat.{_*_, _≤_, _<_};
-ghost use lib.ListN.{length};
-ghost use Rattle.distances.specs.Area.{Weighed};
 ghost use Rattle.sweep.specs.Candidate.{Worded};
 ghost use Rattle.candidates.specs.Fresh.{withRows, NoneFits, Choosing, Fresh};
 use ascending::ascending;
 use known::guess_all;
-use links::link_count;
 use search::Search;
 use sweep::sweep;
-use triplets::followers;
 
 // The rows that a round adds, ascending, with zeros behind them; or no room for them.
 pub struct Added {
@@ -46,7 +41,7 @@ fn with_rows(rows: [u8; 8192], count: usize) -> Added
 
 // All candidates of a cost of at most lambda and epsilon, each once, ascending by their bytes; n types are current, and who is linked
 // with them is known. Of the floors nothing is known at first.
-fn choose(
+pub fn choose(
     states: &[u8],
     area: &[u16],
     weights: &[u16],
@@ -102,98 +97,4 @@ fn choose(
     }
     ascending(&mut rows, all.count);
     with_rows(rows, all.count)
-}
-
-// The same, with memory for words and hints of the rows made.
-fn choose_with_words(
-    states: &[u8],
-    area: &[u16],
-    weights: &[u16],
-    next: &[u16],
-    n: usize,
-    made: usize,
-    epsilon: usize,
-) -> Added
-    requires { ⌜ Choosing (now states) (now area) (now weights) (now next) n made epsilon ⌝ }
-    ensures { λ r. ⌜ Fresh (now (weights .entry)) (now (states .entry)) (now (area .entry)) n made epsilon r ⌝ }
-{
-    let mut masks = [settled::NONE; 16384];
-    let mut hints = [1u64; 4608];
-    let m = settled::width(states, made);
-    settled::hints(states, &mut hints, m, made);
-    choose(
-        states,
-        area,
-        weights,
-        next,
-        &mut masks,
-        &hints,
-        m,
-        n,
-        made,
-        epsilon,
-    )
-}
-
-// The same, with no memory for them: every triplet that can matter is visited.
-fn choose_without_words(
-    states: &[u8],
-    area: &[u16],
-    weights: &[u16],
-    next: &[u16],
-    n: usize,
-    made: usize,
-    epsilon: usize,
-) -> Added
-    requires { ⌜ Choosing (now states) (now area) (now weights) (now next) n made epsilon ⌝ }
-    ensures { λ r. ⌜ Fresh (now (weights .entry)) (now (states .entry)) (now (area .entry)) n made epsilon r ⌝ }
-{
-    let mut masks = [settled::NONE; 1];
-    let hints = [1u64; 1];
-    choose(
-        states,
-        area,
-        weights,
-        next,
-        &mut masks,
-        &hints,
-        64,
-        n,
-        made,
-        epsilon,
-    )
-}
-
-// Whether the types have some four links each, so that words of rows are worth their making: either answer is right. Of one type in four
-// the links with the types below it are counted.
-fn many_links(area: &[u16], n: usize) -> bool
-    requires { ⌜ (n ≤ 128) × (16384 ≤ length (now area)) ⌝ }
-{
-    let mut links = 0usize;
-    let mut i = 0;
-    while i < n {
-        links += link_count(area, i, i);
-        i += 4;
-    }
-    n <= 2 * links
-}
-
-// The rows that a round adds, where n types are current.
-pub fn fresh(
-    states: &[u8],
-    area: &[u16],
-    weights: &[u16],
-    n: usize,
-    made: usize,
-    epsilon: usize,
-) -> Added
-    requires { ⌜ Weighed (now weights) × (n ≤ made) × (made ≤ 128) × (epsilon ≤ 65535) × (64 * made ≤ length (now states)) × (16384 ≤ length (now area)) ⌝ }
-    ensures { λ r. ⌜ Fresh (now (weights .entry)) (now (states .entry)) (now (area .entry)) n made epsilon r ⌝ }
-{
-    let mut next = [256u16; 16512];
-    followers(area, &mut next, n);
-    if 16 <= n && many_links(area, n) {
-        return choose_with_words(states, area, weights, &next, n, made, epsilon);
-    }
-    choose_without_words(states, area, weights, &next, n, made, epsilon)
 }

@@ -1,5 +1,1 @@
-pub mod Words
-pub mod Spelt
-pub mod Narrow
-pub mod Cached
 pub mod Mixing

@@ -5,7 +5,7 @@ use mathlib.Core.Bool.{Bool, true, false, not, _&&_, false≢true}
 use Prim.Native.Nat.{ℕ, zero, suc, _+_, _*_, _≤_, _<_}
 use native.Mathlib.Decide.{decLt}
 use native.Mathlib.Omega.{arith}
-use lib.Bits.{bitAnd}
+use lib.Bits.{bitAnd, and-zero-r}
 use lib.Dec.{eqb}
 use lib.ListN.{length, getD}
 use borrow.Author.Tests.{eqb-true, eqb-false, ne-eqb}
@@ -15,11 +15,22 @@ use Rattle.rules.proofs.Between.{Held, common-held, median-is, median-held, eac
 use Rattle.types.specs.State.{storedAt}
 use Rattle.types.proofs.State.{length-storedAt, storedAt-state}
 use Rattle.triplets.specs.declared.Triplet.{Triplet}
+use Rattle.words.specs.Words.{word, differ, apartIn, Narrow}
+use Rattle.words.proofs.Words.{word-none, word-same, word-and, word-parts}
+use Rattle.words.proofs.Cached.{apart-sym, apart-self}
 use Rattle.settled.specs.declared.Pairs.{Pairs}
-use Rattle.settled.specs.Words.{word, differ, apartIn, aloneIn}
-use Rattle.settled.specs.Settled.{Narrow, Mixed, Settled, PairsOf}
-use Rattle.settled.proofs.Words.{word-none, word-same, word-and, word-alone}
-use Rattle.settled.proofs.Cached.{apart-sym}
+use Rattle.settled.specs.Settled.{aloneIn, Mixed, Settled, PairsOf}
+
+-- What is in both of two words and not in a third.
+word-alone : (p q r : ℕ → Bool) (n c : ℕ) →
+    aloneIn (word p n c) (word q n c) (word r n c) ≡ word (λ i. (p i && q i) && not (r i)) n c
+word-alone p q r n c =
+    rw (word-and p q n c, word-and (λ i. p i && q i) r n c) (omega (arith, word-parts (λ i. p i && q i) r n c))
+
+-- A row is mixed of itself: it has its own states in all characters but none.
+pub mixed-none : (states : Bytes) (m made u v k : ℕ) → u < made → k ≡ 0 → Mixed states m made u v k
+mixed-none states m made u v k h e =
+    record { row = u; is-made = h; with-first = apart-self states m u ∙ sym e; with-second = rw e (and-zero-r (apartIn states m v u)) }
 
 -- Of states a, b and c: y is held by two, or all three differ and y is x. So it is what they have in common.
 abbrev Drawn : ℕ → ℕ → ℕ → ℕ → ℕ → Type 0

@@ -1,4 +1,3 @@
-pub mod Visiting
 pub mod Dropped
 pub mod Floors
 pub mod Walk

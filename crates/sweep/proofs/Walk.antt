@@ -13,7 +13,7 @@ use Rattle.links.specs.Marks.{marked}
 use Rattle.triplets.specs.Followers.{Follower, Followers}
 use Rattle.triplets.specs.Triplet.{inOrder}
 use Rattle.triplets.specs.declared.Triplet.{Triplet}
-use Rattle.settled.specs.Words.{Cached}
+use Rattle.words.specs.Words.{Cached}
 use Rattle.search.specs.declared.Search.{Search}
 use Rattle.search.specs.Search.{Inside}
 use Rattle.search.specs.Swept.{Gives, Swept}

@@ -13,8 +13,7 @@ use Rattle.links.specs.Marks.{marked}
 use Rattle.triplets.specs.Followers.{Followers}
 use Rattle.triplets.specs.Triplet.{inOrder}
 use Rattle.triplets.specs.declared.Triplet.{Triplet}
-use Rattle.settled.specs.Words.{Cached}
-use Rattle.settled.specs.Settled.{Narrow}
+use Rattle.words.specs.Words.{Narrow, Cached}
 use Rattle.search.specs.Swept.{Gives}
 use Rattle.search.specs.declared.Search.{Search}
 

@@ -5,45 +5,15 @@ ghost use mathlib.Core.Path.{_≡_};
 ghost use mathlib.Core.Bool.{true};
 ghost use Prim.Native.Nat.{_*_, _≤_, _<_, min};
 ghost use lib.ListN.{length};
-ghost use Rattle.distances.specs.Area.{Weighed};
 ghost use Rattle.links.specs.Marks.{marked};
-ghost use Rattle.search.specs.Search.{Inside};
-ghost use Rattle.search.specs.Swept.{Gives, Swept};
+ghost use Rattle.search.specs.Swept.{Swept};
 ghost use Rattle.sweep.specs.Candidate.{Candidate, WithFirst, AtCentre, Everywhere, Worded, Ready, Kept};
 ghost use Rattle.sweep.specs.Floors.{Outlook, Floored, Floors};
-use known::alike;
-use medians::medians;
 use search::Search;
-use search::consider;
 use triplets::Triplet;
 use triplets::in_order;
 use triplets::least_cost;
-
-// The median vectors of a triplet. Where the first two are equal, all three are.
-fn visit(
-    states: &[u8],
-    weights: &[u16],
-    found: &mut [u8],
-    guesses: &mut [u16],
-    search: Search,
-    t: Triplet,
-) -> Search
-    requires { ⌜ Weighed (now weights) × Inside (now states) search t × (length (now found) ≡ 8192) × (length (now guesses) ≡ 4096) ⌝ }
-    ensures { λ r. ⌜ (length (now (guesses .exit)) ≡ 4096)
-        × Swept (Gives (now (weights .entry)) (now (states .entry)) (search .made) t) (Gives (now (weights .entry)) (now (states .entry)) (search .made) t)
-        (now (found .entry)) search (now (found .exit)) r ⌝ }
-{
-    let rows = medians(states, t.u, t.v, t.w);
-    let first = rows[0];
-    let second = rows[1];
-    let third = rows[2];
-    let one = consider(states, weights, found, guesses, search, t, &first);
-    if alike(&first, &second) {
-        return one;
-    }
-    let two = consider(states, weights, found, guesses, one, t, &second);
-    consider(states, weights, found, guesses, two, t, &third)
-}
+use visit::visit;
 
 // What is met: the search has come to this, and no candidate met costs less than the floor.
 pub struct Met {

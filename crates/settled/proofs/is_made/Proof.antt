@@ -3,7 +3,7 @@ use mathlib.Core.Path.{refl, sym, _∙_}
 use mathlib.Core.Bool.{false≢true}
 use borrow.Author.Needs.{needs}
 use borrow.Author.Tests.{eqb-true}
-use Rattle.settled.proofs.Cached.{mixed-none}
+use Rattle.settled.proofs.Mixing.{mixed-none}
 use Rattle.settled.proofs.is_made.Statement.{statement}
 use Rattle.settled.proofs.is_made.Tie as tie
 

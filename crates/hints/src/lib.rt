@@ -1,0 +1,131 @@
+// The room of hints: a guess which row made has given states, without a look at its states. It reads the state area. A row has four
+// planes of bits, and a table leads from their mix to a row's number. A guess may be wrong, and a table of hints may hold any numbers:
+// whoever guesses checks. So nothing is promised here but where a guess looks.
+
+ghost use mathlib.Core.Path.{_≡_};
+ghost use Prim.Native.Nat.{_+_, _*_, _≤_, _<_};
+ghost use lib.ListN.{length};
+
+// Eight states in a word, the first lowest.
+fn eight(states: &[u8], at: usize) -> u64
+    requires { ⌜ at + 8 ≤ length (now states) ⌝ }
+{
+    let mut word = 0u64;
+    let mut k = 8;
+    while 0 < k {
+        k -= 1;
+        word = (word << 8) | states[at + k] as u64;
+    }
+    word
+}
+
+// Eight bytes of eight bits, turned: byte p has bit p of each, in their order.
+fn turned(x: u64) -> u64 {
+    let singles = (x ^ (x >> 7)) & 0x00aa00aa00aa00aa;
+    let y = x ^ singles ^ (singles << 7);
+    let pairs = (y ^ (y >> 14)) & 0x0000cccc0000cccc;
+    let z = y ^ pairs ^ (pairs << 14);
+    let halves = (z ^ (z >> 28)) & 0x00000000f0f0f0f0;
+    z ^ halves ^ (halves << 28)
+}
+
+// Four planes of a row: bit c of plane p is bit p of the state in character c. They tell letters apart, and digits.
+struct Planes {
+    ones: u64,
+    twos: u64,
+    fours: u64,
+    eights: u64,
+}
+
+// The planes of row i, eight characters at a time.
+fn planes_of(states: &[u8], m: usize, i: usize) -> Planes
+    requires { ⌜ (m ≤ 64) × (64 * i + 64 ≤ length (now states)) ⌝ }
+{
+    let mut ones = 0u64;
+    let mut twos = 0u64;
+    let mut fours = 0u64;
+    let mut eights = 0u64;
+    let mut k = (m + 7) / 8;
+    while 0 < k {
+        k -= 1;
+        let bits = turned(eight(states, 64 * i + 8 * k));
+        ones = (ones << 8) | (bits % 256);
+        twos = (twos << 8) | ((bits >> 8) % 256);
+        fours = (fours << 8) | ((bits >> 16) % 256);
+        eights = (eights << 8) | ((bits >> 24) % 256);
+    }
+    Planes {
+        ones: ones,
+        twos: twos,
+        fours: fours,
+        eights: eights,
+    }
+}
+
+// Where the row with these planes is looked for: in the table behind the planes. (A prime that is not close to a power of 2 mixes
+// well, and dividing by this one takes few steps.)
+fn slot(p: Planes) -> usize
+    ensures { λ r. ⌜ r < 4608 ⌝ }
+{
+    let twos = (p.twos << 16) | (p.twos >> 48);
+    let fours = (p.fours << 32) | (p.fours >> 32);
+    let eights = (p.eights << 48) | (p.eights >> 16);
+    512 + ((p.ones ^ twos ^ fours ^ eights) % 4021) as usize
+}
+
+// The hints of row i: its planes, and its number in their slot.
+fn hint(states: &[u8], hints: &mut [u64], m: usize, i: usize)
+    requires { ⌜ (m ≤ 64) × (i < 128) × (64 * i + 64 ≤ length (now states)) × (length (now hints) ≡ 4608) ⌝ }
+    ensures { λ _. ⌜ length (now (hints .exit)) ≡ 4608 ⌝ }
+{
+    let p = planes_of(states, m, i);
+    hints[4 * i] = p.ones;
+    hints[4 * i + 1] = p.twos;
+    hints[4 * i + 2] = p.fours;
+    hints[4 * i + 3] = p.eights;
+    hints[slot(p)] = i as u64;
+}
+
+// What guesses go by: four planes of bits for each row, and a table from their mix to a row. May hold any numbers.
+pub fn hints(states: &[u8], hints: &mut [u64], m: usize, made: usize)
+    requires { ⌜ (m ≤ 64) × (made ≤ 128) × (64 * made ≤ length (now states)) × (length (now hints) ≡ 4608) ⌝ }
+    ensures { λ _. ⌜ length (now (hints .exit)) ≡ 4608 ⌝ }
+{
+    let mut i = 0;
+    while i < made {
+        hint(states, hints, m, i);
+        i += 1;
+    }
+}
+
+// The planes that are kept of row i.
+fn kept(hints: &[u64], i: usize) -> Planes
+    requires { ⌜ (i < 128) × (4608 ≤ length (now hints)) ⌝ }
+{
+    Planes {
+        ones: hints[4 * i],
+        twos: hints[4 * i + 1],
+        fours: hints[4 * i + 2],
+        eights: hints[4 * i + 3],
+    }
+}
+
+// A plane with the bits of the second in the characters of k, and those of the first in the others.
+fn mixed(first: u64, second: u64, k: u64) -> u64 {
+    first ^ ((first ^ second) & k)
+}
+
+// A guess which row has the states of row v in the characters of k, and those of row u in the others.
+pub fn guess(hints: &[u64], u: usize, v: usize, k: u64) -> usize
+    requires { ⌜ (u < 128) × (v < 128) × (4608 ≤ length (now hints)) ⌝ }
+{
+    let p = kept(hints, u);
+    let q = kept(hints, v);
+    let both = Planes {
+        ones: mixed(p.ones, q.ones, k),
+        twos: mixed(p.twos, q.twos, k),
+        fours: mixed(p.fours, q.fours, k),
+        eights: mixed(p.eights, q.eights, k),
+    };
+    hints[slot(both)] as usize
+}

@@ -1,0 +1,4 @@
+pub mod Words
+pub mod Spelt
+pub mod Narrow
+pub mod Cached

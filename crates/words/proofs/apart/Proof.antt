@@ -1,0 +1,78 @@
+-- `words::apart` meets its contract: from character c on the word is made.
+use native.Mathlib.Omega.{arith}
+use Rattle.words.proofs.Spelt.{Spelt, none-spelt, room-left, one-fits, one-spelt, all-spelt}
+use Rattle.words.proofs.apart.Statement.{statement}
+use Rattle.words.proofs.apart.Tie as tie
+
+abbrev Inv-loop : tie.InvT-loop
+Inv-loop states m i j first second word₀ c₀ w c = Spelt states m i j c w
+
+abbrev μ-loop : tie.MeasureT-loop
+μ-loop states m i j first second word₀ c₀ w c = c
+
+mul-first : tie.Need-mul-first Inv-loop μ-loop
+mul-first c = omega arith
+
+mul-second : tie.Need-mul-second Inv-loop μ-loop
+mul-second c = omega arith
+
+loop-holds : tie.Need-loop-holds Inv-loop μ-loop
+loop-holds c = none-spelt _ _ _ _
+
+sub-c : tie.Need-sub-c Inv-loop μ-loop
+sub-c c = omega arith
+
+mul-word : tie.Need-mul-word Inv-loop μ-loop
+mul-word c = omega (arith, room-left _ _ _ _ _ _ (omega arith) (omega arith) (c .before .loop .inv))
+
+add-unlike : tie.Need-add-unlike Inv-loop μ-loop
+add-unlike c = omega arith
+
+shared-slice-read-unlike : tie.Need-shared-slice-read-unlike Inv-loop μ-loop
+shared-slice-read-unlike c = omega arith
+
+add-unlike-2 : tie.Need-add-unlike-2 Inv-loop μ-loop
+add-unlike-2 c = omega arith
+
+shared-slice-read-unlike-2 : tie.Need-shared-slice-read-unlike-2 Inv-loop μ-loop
+shared-slice-read-unlike-2 c = omega arith
+
+unlike-requires : tie.Need-unlike-requires Inv-loop μ-loop
+unlike-requires c κs = omega arith
+
+add-word : tie.Need-add-word Inv-loop μ-loop
+add-word c =
+    let l = c .before .before .before .before in
+    omega (arith, one-fits _ _ _ _ _ _ _ (omega arith) (omega arith) (l .loop .inv) (c .unlike .ensures))
+
+loop-less : tie.Need-loop-less Inv-loop μ-loop
+loop-less c = omega arith
+
+loop-again : tie.Need-loop-again Inv-loop μ-loop
+loop-again c =
+    let l = c .before .before .before .before in
+    one-spelt _ _ _ _ (l .loop .c) (l .loop .word) _ (omega arith) (l .loop .inv) (c .unlike .ensures)
+
+returns : tie.Need-returns Inv-loop μ-loop
+returns c = all-spelt _ _ _ _ (c .before .loop .c) _ (omega arith) (c .before .loop .inv)
+
+pub apart-spec : {M : Type 1} → statement M
+apart-spec =
+    tie.close
+    (tie.spec
+    Inv-loop
+    μ-loop
+    mul-first
+    mul-second
+    loop-holds
+    sub-c
+    mul-word
+    add-unlike
+    shared-slice-read-unlike
+    add-unlike-2
+    shared-slice-read-unlike-2
+    unlike-requires
+    add-word
+    loop-less
+    loop-again
+    returns)
