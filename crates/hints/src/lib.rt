@@ -5,19 +5,7 @@
 ghost use mathlib.Core.Path.{_≡_};
 ghost use Prim.Native.Nat.{_+_, _*_, _≤_, _<_};
 ghost use lib.ListN.{length};
-
-// Eight states in a word, the first lowest.
-fn eight(states: &[u8], at: usize) -> u64
-    requires { ⌜ at + 8 ≤ length (now states) ⌝ }
-{
-    let mut word = 0u64;
-    let mut k = 8;
-    while 0 < k {
-        k -= 1;
-        word = (word << 8) | states[at + k] as u64;
-    }
-    word
-}
+use memory::eight_at;
 
 // Eight bytes of eight bits, turned: byte p has bit p of each, in their order.
 fn turned(x: u64) -> u64 {
@@ -48,7 +36,7 @@ fn planes_of(states: &[u8], m: usize, i: usize) -> Planes
     let mut k = (m + 7) / 8;
     while 0 < k {
         k -= 1;
-        let bits = turned(eight(states, 64 * i + 8 * k));
+        let bits = turned(eight_at(states, 64 * i + 8 * k));
         ones = (ones << 8) | (bits % 256);
         twos = (twos << 8) | ((bits >> 8) % 256);
         fours = (fours << 8) | ((bits >> 16) % 256);

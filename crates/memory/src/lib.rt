@@ -1,4 +1,4 @@
-// The room of lent memory: numbers of 16 bits in bytes, clearing to the end, copying into a part. Leaf code: every other room
+// The room of lent memory: numbers of 16 bits in bytes, eight bytes at once, clearing to the end, copying into a part. Leaf code: every other room
 // reads and writes through it, and it knows nothing of jobs or types.
 
 ghost use mathlib.Core.Path.{_≡_};
@@ -7,7 +7,7 @@ ghost use Prim.Native.Nat.{_+_, _≤_, _<_};
 ghost use lib.ListN.{length, replicate};
 ghost use Rattle.rules.specs.Result.{words};
 ghost use Rattle.memory.specs.Placed.{placed};
-ghost use Rattle.memory.specs.Word.{WordAt};
+ghost use Rattle.memory.specs.Word.{WordAt, EightAt};
 
 // The number of 16 bits at a byte, low byte first.
 pub fn word_at(b: &[u8], i: usize) -> usize
@@ -15,6 +15,21 @@ pub fn word_at(b: &[u8], i: usize) -> usize
     ensures { λ r. ⌜ WordAt (now (b .entry)) i r ⌝ }
 {
     b[i] as usize + 256 * (b[i + 1] as usize)
+}
+
+// Eight bytes as one number, low byte first: the compiler makes one load of it.
+pub fn eight_at(b: &[u8], i: usize) -> u64
+    requires { ⌜ i + 8 ≤ length (now b) ⌝ }
+    ensures { λ r. ⌜ EightAt (now (b .entry)) i r ⌝ }
+{
+    let mut word = 0u64;
+    let mut k = 8;
+    while 0 < k {
+        k -= 1;
+        let byte = b[i + k] as u64;
+        word = word * 256 + byte;
+    }
+    word
 }
 
 // Writes a number of 16 bits at a byte, low byte first.

@@ -8,6 +8,7 @@ ghost use Rattle.graph.specs.Below.{first};
 ghost use Rattle.rules.specs.Types.{sameRow};
 ghost use Rattle.types.specs.State.{storedAt, blank};
 use memory::copy;
+use memory::eight_at;
 use rules::Kind;
 use rules::Origin;
 
@@ -22,7 +23,7 @@ pub fn row_at(states: &[u8], i: usize) -> [u8; 64]
     row
 }
 
-// Whether type i of the state area has this row.
+// Whether type i of the state area has this row: eight bytes are compared at once.
 pub fn same_row(states: &[u8], i: usize, row: &[u8; 64]) -> bool
     requires { ⌜ 64 * i + 64 ≤ length (now states) ⌝ }
     ensures { λ r. ⌜ r ≡ sameRow (storedAt (now (states .entry)) i) (now (row .entry)) ⌝ }
@@ -30,12 +31,12 @@ pub fn same_row(states: &[u8], i: usize, row: &[u8; 64]) -> bool
     let at = 64 * i;
     // as a slice, the row is known to have 64 bytes
     let bytes: &[u8] = row;
-    let mut c = 0;
-    while c < 64 {
-        if states[at + c] != bytes[c] {
+    let mut k = 0;
+    while k < 8 {
+        if eight_at(states, at + 8 * k) != eight_at(bytes, 8 * k) {
             return false;
         }
-        c += 1;
+        k += 1;
     }
     true
 }

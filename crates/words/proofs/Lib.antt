@@ -1,4 +1,3 @@
 pub mod Words
-pub mod Spelt
 pub mod Narrow
 pub mod Cached

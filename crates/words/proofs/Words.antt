@@ -1,16 +1,16 @@
 -- Laws of Words.antt: words are read bit by bit.
 use mathlib.Core.Path.{_≡_, refl, sym, ap, ap₂, _∙_}
 use mathlib.Core.Bool.{Bool, true, false, not, _&&_}
-use Prim.Native.Nat.{ℕ, zero, suc, _+_, _*_, _/_, _%_, _^_, _≤_, _<_, min}
-use native.Mathlib.Nat.{pow-suc}
-use native.Mathlib.Decide.{ℕ-discrete}
+use Prim.Native.Nat.{ℕ, zero, suc, _+_, _*_, _-_, _≤_, _<_, min}
 use native.Mathlib.Omega.{arith}
-use lib.Arith.{digits-lt, digits-div, digits-mod}
 use lib.Bits.{bitAnd, and-step}
+use lib.Pow.{pow-mono}
+use Rattle.memory.specs.Digits.{digits}
+use Rattle.memory.proofs.Digits.{lowest, others, digits-ext, digits-same, Spelt, one-fits}
 use Rattle.words.specs.Words.{bit, word}
 
 -- One bit.
-pub bit-small : (t : Bool) → bit t < 2
+bit-small : (t : Bool) → bit t < 2
 bit-small true = omega arith
 bit-small false = omega arith
 
@@ -31,52 +31,37 @@ bit-same true false e = absurd (omega arith)
 bit-same false true e = absurd (omega arith)
 bit-same false false e = refl
 
--- The lowest bit of a word, and the others.
-module _ (p : ℕ → Bool) (n c : ℕ) where
-  lowest : word p (suc n) c % 2 ≡ bit (p c)
-  unfolding word
-  lowest = digits-mod (word p n (suc c)) (bit-small (p c))
-
-  others : word p (suc n) c / 2 ≡ word p n (suc c)
-  unfolding word
-  others = digits-div (word p n (suc c)) (bit-small (p c))
-
-pub word-small : (p : ℕ → Bool) (n c : ℕ) → word p n c < 2 ^ n
-unfolding word
-word-small p zero c = omega arith
-word-small p (suc n) c = rw pow-suc (digits-lt (word-small p n (suc c)) (bit-small (p c)))
-
+-- No bit is set.
 pub word-none : (n c : ℕ) → word (λ i. false) n c ≡ 0
-unfolding word
+unfolding digits
 word-none zero c = refl
 word-none (suc n) c = rw (word-none n (suc c))
 
+-- Words are equal if they are in every bit, and only then.
 pub word-ext : (p q : ℕ → Bool) → ((i : ℕ) → p i ≡ q i) → (n c : ℕ) → word p n c ≡ word q n c
-unfolding word
-word-ext p q e zero c = refl
-word-ext p q e (suc n) c = rw (word-ext p q e n (suc c), e c)
+word-ext p q e n c = digits-ext 2 _ _ n c (λ i l h. ap bit (e i))
 
--- Words are equal only if they are in every bit.
 pub word-same : (p q : ℕ → Bool) (n c : ℕ) → word p n c ≡ word q n c → (i : ℕ) → c ≤ i → i < c + n → p i ≡ q i
-word-same p q zero c e i l h = absurd (omega arith)
-word-same p q (suc n) c e i l h = elim (ℕ-discrete i c) [
-  | yes f ↦ rw f (bit-same (p c) (q c) (sym (lowest p n c) ∙ ap (λ (x : ℕ). x % 2) e ∙ lowest q n c))
-  | no f ↦
-      word-same p q n (suc c) (sym (others p n c) ∙ ap (λ (x : ℕ). x / 2) e ∙ others q n c) i (omega arith) (omega arith)
-]
+word-same p q n c e i l h = bit-same (p i) (q i) (digits-same (λ k. bit-small (p k)) (λ k. bit-small (q k)) n c e i l h)
 
 -- Both tests.
 pub word-and : (p q : ℕ → Bool) (n c : ℕ) → bitAnd (word p n c) (word q n c) ≡ word (λ i. p i && q i) n c
-unfolding word
+unfolding digits
 word-and p q zero c = refl
 word-and p q (suc n) c =
     and-step (word p (suc n) c) (word q (suc n) c)
     ∙ ap₂ (λ (x y : ℕ). x * 2 + y)
-    (ap₂ bitAnd (others p n c) (others q n c) ∙ word-and p q n (suc c))
-    (ap₂ min (lowest p n c) (lowest q n c) ∙ bit-and (p c) (q c))
+    (ap₂ bitAnd (others (λ k. bit-small (p k)) n c) (others (λ k. bit-small (q k)) n c) ∙ word-and p q n (suc c))
+    (ap₂ min (lowest (λ k. bit-small (p k)) n c) (lowest (λ k. bit-small (q k)) n c) ∙ bit-and (p c) (q c))
 
 -- One test and not the other.
 pub word-parts : (p q : ℕ → Bool) (n c : ℕ) → word (λ i. p i && q i) n c + word (λ i. p i && not (q i)) n c ≡ word p n c
-unfolding word
+unfolding digits
 word-parts p q zero c = refl
 word-parts p q (suc n) c = omega (arith, word-parts p q n (suc c), bit-parts (p c) (q c))
+
+-- There is room for one bit more in a word of up to 64.
+pub one-bit-fits : (p : ℕ → Bool) (m c w d : ℕ) → m ≤ 64 → 0 < c → Spelt 2 (λ k. bit (p k)) m c w → d ≡ bit (p (c - 1)) →
+    w * 2 + d < 18446744073709551616
+one-bit-fits p m c w d h l s e =
+    omega (arith, one-fits 2 (λ k. bit (p k)) m c w d l s e (λ k. bit-small (p k)), pow-mono {i = m} {j = 64} h)

@@ -3,18 +3,18 @@ use mathlib.Core.Path.{_≡_}
 use mathlib.Core.Logic.{_⊎_}
 use mathlib.Core.Bool.{Bool, not, cond}
 use mathlib.Core.List.{List}
-use Prim.Native.Nat.{ℕ, zero, suc, _+_, _*_, _≤_, _<_}
+use Prim.Native.Nat.{ℕ, _+_, _*_, _≤_, _<_}
 use lib.Dec.{eqb}
 use lib.ListN.{length, getD}
 use Rattle.rules.specs.Job.{Bytes}
+use Rattle.memory.specs.Digits.{digits}
 
 -- One bit, and the word of a test: the lowest bit tells of character c, and so on, for n characters.
 abbrev pub bit : Bool → ℕ
 bit t = cond t 1 0
 
-unfoldable pub word : (ℕ → Bool) → ℕ → ℕ → ℕ
-word p zero c = 0
-word p (suc n) c = word p n (suc c) * 2 + bit (p c)
+abbrev pub word : (ℕ → Bool) → ℕ → ℕ → ℕ
+word p = digits 2 (λ c. bit (p c))
 
 -- Rows i and j differ in character c, and the word of that.
 abbrev pub differ : Bytes → ℕ → ℕ → ℕ → Bool

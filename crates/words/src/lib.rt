@@ -60,7 +60,7 @@ fn apart(states: &[u8], m: usize, i: usize, j: usize) -> u64
     let mut c = m;
     while 0 < c {
         c -= 1;
-        word = 2 * word + unlike(states[first + c], states[second + c]);
+        word = word * 2 + unlike(states[first + c], states[second + c]);
     }
     word
 }

@@ -19,17 +19,17 @@ loop-holds c = omega arith
 sub-k : tie.Need-sub-k Inv-loop μ-loop
 sub-k c = omega arith
 
-mul-eight : tie.Need-mul-eight Inv-loop μ-loop
-mul-eight c = omega arith
+mul-eight-at : tie.Need-mul-eight-at Inv-loop μ-loop
+mul-eight-at c = omega arith
 
-mul-eight-2 : tie.Need-mul-eight-2 Inv-loop μ-loop
-mul-eight-2 c = omega arith
+mul-eight-at-2 : tie.Need-mul-eight-at-2 Inv-loop μ-loop
+mul-eight-at-2 c = omega arith
 
-add-eight : tie.Need-add-eight Inv-loop μ-loop
-add-eight c = omega arith
+add-eight-at : tie.Need-add-eight-at Inv-loop μ-loop
+add-eight-at c = omega arith
 
-eight-requires : tie.Need-eight-requires Inv-loop μ-loop
-eight-requires c κs = omega arith
+eight-at-requires : tie.Need-eight-at-requires Inv-loop μ-loop
+eight-at-requires c κs = omega arith
 
 turned-requires : tie.Need-turned-requires Inv-loop μ-loop
 turned-requires c κs = omega arith
@@ -52,10 +52,10 @@ planes-of-spec =
     add-k
     loop-holds
     sub-k
-    mul-eight
-    mul-eight-2
-    add-eight
-    eight-requires
+    mul-eight-at
+    mul-eight-at-2
+    add-eight-at
+    eight-at-requires
     turned-requires
     loop-less
     loop-again

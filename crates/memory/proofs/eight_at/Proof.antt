@@ -1,0 +1,70 @@
+-- `memory::eight_at` meets its contract: from byte k on the number is made.
+use mathlib.Core.Path.{refl}
+use Prim.Native.Nat.{ℕ, _+_, _<_}
+use native.Mathlib.Omega.{arith}
+use lib.ListN.{getD}
+use mir.Facts.{fits-8-64}
+use Rattle.memory.proofs.Digits.{Spelt, none-spelt, one-spelt, one-fits, all-spelt}
+use Rattle.memory.proofs.eight_at.Statement.{statement}
+use Rattle.memory.proofs.eight_at.Tie as tie
+
+abbrev Inv-loop : tie.InvT-loop
+Inv-loop b i word₀ k₀ word k = Spelt 256 (λ x. getD b (i + x) 0) 8 k word × (k < 8 → (p : ℕ) → getD b p 0 < 256)
+
+abbrev μ-loop : tie.MeasureT-loop
+μ-loop b i word₀ k₀ word k = k
+
+loop-holds : tie.Need-loop-holds Inv-loop μ-loop
+loop-holds c = (none-spelt _ _ _, λ h. absurd (omega arith))
+
+sub-k : tie.Need-sub-k Inv-loop μ-loop
+sub-k c = omega arith
+
+add-byte : tie.Need-add-byte Inv-loop μ-loop
+add-byte c = omega (arith, c .before .loop .inv .0 .passed)
+
+shared-slice-read-byte : tie.Need-shared-slice-read-byte Inv-loop μ-loop
+shared-slice-read-byte c = omega (arith, c .before .before .loop .inv .0 .passed)
+
+cast-byte : tie.Need-cast-byte Inv-loop μ-loop
+cast-byte c = fits-8-64 (c .shared-slice-known .given _)
+
+mul-word : tie.Need-mul-word Inv-loop μ-loop
+mul-word c =
+    let l = c .before .before in
+    let i = l .before .args .i in
+    omega (arith, one-fits _ _ _ _ _ _ (omega arith) (l .loop .inv .0) refl (λ x. omega (arith, c .shared-slice-known .given (i + x))))
+
+add-word : tie.Need-add-word Inv-loop μ-loop
+add-word c =
+    let l = c .before .before in
+    let i = l .before .args .i in
+    omega (arith, one-fits _ _ _ _ _ _ (omega arith) (l .loop .inv .0) refl (λ x. omega (arith, c .shared-slice-known .given (i + x))))
+
+loop-less : tie.Need-loop-less Inv-loop μ-loop
+loop-less c = omega arith
+
+loop-again : tie.Need-loop-again Inv-loop μ-loop
+loop-again c = (one-spelt _ _ _ _ _ _ (omega arith) (c .before .before .loop .inv .0) refl, λ h p. omega (arith, c .shared-slice-known .given p))
+
+returns : tie.Need-returns Inv-loop μ-loop
+returns c =
+    let l = c .before .loop in
+    record { is = all-spelt _ _ _ (l .k) _ (omega arith) (l .inv .0); bytes = l .inv .1 (omega arith) }
+
+pub eight-at-spec : {M : Type 1} → statement M
+eight-at-spec =
+    tie.close
+    (tie.spec
+    Inv-loop
+    μ-loop
+    loop-holds
+    sub-k
+    add-byte
+    shared-slice-read-byte
+    cast-byte
+    mul-word
+    add-word
+    loop-less
+    loop-again
+    returns)
