@@ -16,9 +16,9 @@ use triplets::least_cost;
 use visit::visit;
 
 // What is met: the search has come to this, and no candidate met costs less than the floor.
-pub struct Met {
-    pub search: Search,
-    pub floor: usize,
+struct Met {
+    search: Search,
+    floor: usize,
 }
 
 fn lesser(x: usize, y: usize) -> usize
