@@ -1,10 +1,10 @@
 // The room of hints: a guess which row made has given states, without a look at its states. It reads the state area. A row has four
 // planes of bits, and a table leads from their mix to a row's number. A guess may be wrong, and a table of hints may hold any numbers:
-// whoever guesses checks. So nothing is promised here but where a guess looks.
+// whoever guesses checks. So nothing is promised here but that a guess is one of those numbers.
 
 ghost use mathlib.Core.Path.{_≡_};
-ghost use Prim.Native.Nat.{_+_, _*_, _≤_, _<_};
-ghost use lib.ListN.{length};
+ghost use Prim.Native.Nat.{ℕ, _+_, _*_, _≤_, _<_};
+ghost use lib.ListN.{length, getD};
 use memory::eight_at;
 
 // Eight bytes of eight bits, turned: byte p has bit p of each, in their order.
@@ -103,9 +103,10 @@ fn mixed(first: u64, second: u64, k: u64) -> u64 {
     first ^ ((first ^ second) & k)
 }
 
-// A guess which row has the states of row v in the characters of k, and those of row u in the others.
+// A guess which row has the states of row v in the characters of k, and those of row u in the others: one of the numbers in the table.
 pub fn guess(hints: &[u64], u: usize, v: usize, k: u64) -> usize
     requires { ⌜ (u < 128) × (v < 128) × (4608 ≤ length (now hints)) ⌝ }
+    ensures { λ r. ⌜ ((at : ℕ) × (at < 4608) × (r ≡ getD (now (hints .entry)) at 0)) ⌝ }
 {
     let p = kept(hints, u);
     let q = kept(hints, v);
