@@ -46,14 +46,14 @@ pub fn choose(
     area: &[u16],
     weights: &[u16],
     next: &[u16],
-    masks: &mut [u64],
+    words: &mut [u64],
     hints: &[u64],
     m: usize,
     n: usize,
     made: usize,
     epsilon: usize,
 ) -> Added
-    requires { ⌜ Choosing (now states) (now area) (now weights) (now next) n made epsilon × Worded (now states) (now masks) m made ⌝ }
+    requires { ⌜ Choosing (now states) (now area) (now weights) (now next) n made epsilon × Worded (now states) (now words) m made ⌝ }
     ensures { λ r. ⌜ Fresh (now (weights .entry)) (now (states .entry)) (now (area .entry)) n made epsilon r ⌝ }
 {
     let mut guesses = guess_all(states, made);
@@ -66,7 +66,7 @@ pub fn choose(
         weights,
         next,
         &mut floors,
-        masks,
+        words,
         hints,
         &mut rows,
         &mut guesses,
@@ -84,7 +84,7 @@ pub fn choose(
         weights,
         next,
         &mut floors,
-        masks,
+        words,
         hints,
         &mut rows,
         &mut guesses,

@@ -23,7 +23,7 @@ fn choose_with_words(
     requires { ⌜ Choosing (now states) (now area) (now weights) (now next) n made epsilon ⌝ }
     ensures { λ r. ⌜ Fresh (now (weights .entry)) (now (states .entry)) (now (area .entry)) n made epsilon r ⌝ }
 {
-    let mut masks = [words::NONE; 16384];
+    let mut words = [words::NONE; 16384];
     let mut hints = [1u64; 4608];
     let m = words::width(states, made);
     hints::hints(states, &mut hints, m, made);
@@ -32,7 +32,7 @@ fn choose_with_words(
         area,
         weights,
         next,
-        &mut masks,
+        &mut words,
         &hints,
         m,
         n,
@@ -54,14 +54,14 @@ fn choose_without_words(
     requires { ⌜ Choosing (now states) (now area) (now weights) (now next) n made epsilon ⌝ }
     ensures { λ r. ⌜ Fresh (now (weights .entry)) (now (states .entry)) (now (area .entry)) n made epsilon r ⌝ }
 {
-    let mut masks = [words::NONE; 1];
+    let mut words = [words::NONE; 1];
     let hints = [1u64; 1];
     choose(
         states,
         area,
         weights,
         next,
-        &mut masks,
+        &mut words,
         &hints,
         64,
         n,

@@ -13,7 +13,7 @@ use Rattle.rules.specs.Types.{rowAt}
 use Rattle.rules.specs.Distance.{distance, apart}
 use Rattle.rules.proofs.Job.{Passed, length-weights, weight-within}
 
-eqb-sym : (a b : ℕ) → eqb a b ≡ eqb b a
+pub eqb-sym : (a b : ℕ) → eqb a b ≡ eqb b a
 eqb-sym a b = go (eqb a b) refl
   where
     go : (t : Bool) → eqb a b ≡ t → t ≡ eqb b a

@@ -89,31 +89,31 @@ module _ {ws : List ℕ} {states : Bytes} {area : List ℕ} {n made c : ℕ} {x 
   ]
 
 -- What is kept is kept by one sweep after the other.
-pub kept-then : {states : Bytes} {m made made′ : ℕ} {masks₀ masks₁ masks₂ guesses₁ guesses₂ : List ℕ} → made′ ≡ made →
-    Kept states m made masks₀ masks₁ guesses₁ → Kept states m made′ masks₁ masks₂ guesses₂ → Kept states m made masks₀ masks₂ guesses₂
-kept-then e a b = record { worded = rw e at (b .worded); masks-size = b .masks-size ∙ a .masks-size; guesses-size = b .guesses-size }
+pub kept-then : {states : Bytes} {m made made′ : ℕ} {words₀ words₁ words₂ guesses₁ guesses₂ : List ℕ} → made′ ≡ made →
+    Kept states m made words₀ words₁ guesses₁ → Kept states m made′ words₁ words₂ guesses₂ → Kept states m made words₀ words₂ guesses₂
+kept-then e a b = record { worded = rw e at (b .worded); words-size = b .words-size ∙ a .words-size; guesses-size = b .guesses-size }
 
 -- More words are known, or the guesses changed.
-pub kept-words : {states : Bytes} {m made made′ : ℕ} {masks₀ masks₁ masks₂ guesses : List ℕ} → made′ ≡ made →
-    Kept states m made masks₀ masks₁ guesses → Cached states m made′ masks₂ → length masks₂ ≡ length masks₁ → Kept states m made masks₀ masks₂ guesses
+pub kept-words : {states : Bytes} {m made made′ : ℕ} {words₀ words₁ words₂ guesses : List ℕ} → made′ ≡ made →
+    Kept states m made words₀ words₁ guesses → Cached states m made′ words₂ → length words₂ ≡ length words₁ → Kept states m made words₀ words₂ guesses
 kept-words e a cached size = record {
   worded = record { narrow = a .worded .narrow; cached = rw e at cached };
-  masks-size = size ∙ a .masks-size;
+  words-size = size ∙ a .words-size;
   guesses-size = a .guesses-size;
 }
 
-pub kept-guesses : {states : Bytes} {m made : ℕ} {masks₀ masks guesses guesses′ : List ℕ} → Kept states m made masks₀ masks guesses →
-    length guesses′ ≡ 4096 → Kept states m made masks₀ masks guesses′
-kept-guesses a size = record { worded = a .worded; masks-size = a .masks-size; guesses-size = size }
+pub kept-guesses : {states : Bytes} {m made : ℕ} {words₀ words guesses guesses′ : List ℕ} → Kept states m made words₀ words guesses →
+    length guesses′ ≡ 4096 → Kept states m made words₀ words guesses′
+kept-guesses a size = record { worded = a .worded; words-size = a .words-size; guesses-size = size }
 
-module _ {states : Bytes} {area ws next masks₀ : List ℕ} {found₀ guesses₀ : Bytes} {m n : ℕ} {s₀ : Search}
-    (ready : Ready states area ws next masks₀ found₀ guesses₀ m n s₀) where
-  pub kept-none : Kept states m (s₀ .made) masks₀ masks₀ guesses₀
-  kept-none = record { worded = ready .worded; masks-size = refl; guesses-size = ready .guesses-size }
+module _ {states : Bytes} {area ws next words₀ : List ℕ} {found₀ guesses₀ : Bytes} {m n : ℕ} {s₀ : Search}
+    (ready : Ready states area ws next words₀ found₀ guesses₀ m n s₀) where
+  pub kept-none : Kept states m (s₀ .made) words₀ words₀ guesses₀
+  kept-none = record { worded = ready .worded; words-size = refl; guesses-size = ready .guesses-size }
 
   -- What a search needs, it has after a sweep too.
-  pub still-ready : {A G : Rows} {masks : List ℕ} {found guesses : Bytes} {s : Search} → Swept A G found₀ s₀ found s →
-      Kept states m (s₀ .made) masks₀ masks guesses → Ready states area ws next masks found guesses m n s
+  pub still-ready : {A G : Rows} {words : List ℕ} {found guesses : Bytes} {s : Search} → Swept A G found₀ s₀ found s →
+      Kept states m (s₀ .made) words₀ words guesses → Ready states area ws next words found guesses m n s
   still-ready a kept = record {
     weighed = ready .weighed;
     follows = ready .follows;

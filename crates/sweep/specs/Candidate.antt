@@ -58,15 +58,15 @@ pub record Everywhere (ws : List ℕ) (states : Bytes) (area : List ℕ) (n made
   pub rest : AtCentre ws states area n made c n x cost
 
 -- Words of the rows made, of the characters below m, that are right where they are known; from m on the rows hold zeros.
-pub record Worded (states : Bytes) (masks : List ℕ) (m made : ℕ) : Type 0 where
+pub record Worded (states : Bytes) (words : List ℕ) (m made : ℕ) : Type 0 where
   pub narrow : Narrow states made m
-  pub cached : Cached states m made masks
+  pub cached : Cached states m made words
 
 -- What a search through the triplets of n types needs, and what it keeps besides the rows found.
-pub record Ready (states : Bytes) (area ws next masks : List ℕ) (found : Bytes) (guesses : List ℕ) (m n : ℕ) (s : Search) : Type 0 where
+pub record Ready (states : Bytes) (area ws next words : List ℕ) (found : Bytes) (guesses : List ℕ) (m n : ℕ) (s : Search) : Type 0 where
   pub weighed : Weighed ws
   pub follows : Followers area n next
-  pub worded : Worded states masks m (s .made)
+  pub worded : Worded states words m (s .made)
   pub current : n ≤ s .made
   pub room : s .made + s .count ≤ 128
   pub lie : 64 * s .made ≤ length states
@@ -75,7 +75,7 @@ pub record Ready (states : Bytes) (area ws next masks : List ℕ) (found : Bytes
   pub guesses-size : length guesses ≡ 4096
   pub low : s .below ≤ 200000
 
-pub record Kept (states : Bytes) (m made : ℕ) (masks masks′ guesses : List ℕ) : Type 0 where
-  pub worded : Worded states masks′ m made
-  pub masks-size : length masks′ ≡ length masks
+pub record Kept (states : Bytes) (m made : ℕ) (words words′ guesses : List ℕ) : Type 0 where
+  pub worded : Worded states words′ m made
+  pub words-size : length words′ ≡ length words
   pub guesses-size : length guesses ≡ 4096

@@ -32,23 +32,23 @@ fn lesser(x: usize, y: usize) -> usize
 fn outlook(
     states: &[u8],
     area: &[u16],
-    masks: &mut [u64],
+    words: &mut [u64],
     hints: &[u64],
     m: usize,
     made: usize,
     t: Triplet,
     below: usize,
 ) -> usize
-    requires { ⌜ Worded (now states) (now masks) m made × (made ≤ 128) × (64 * made ≤ length (now states)) × (16384 ≤ length (now area))
+    requires { ⌜ Worded (now states) (now words) m made × (made ≤ 128) × (64 * made ≤ length (now states)) × (16384 ≤ length (now area))
         × (t .u < made) × (t .v < made) × (t .w < made) ⌝ }
-    ensures { λ r. ⌜ Outlook (now (states .entry)) (now (area .entry)) made t r × Worded (now (states .entry)) (now (masks .exit)) m made
-        × (length (now (masks .exit)) ≡ length (now (masks .entry))) ⌝ }
+    ensures { λ r. ⌜ Outlook (now (states .entry)) (now (area .entry)) made t r × Worded (now (states .entry)) (now (words .exit)) m made
+        × (length (now (words .exit)) ≡ length (now (words .entry))) ⌝ }
 {
     let least = least_cost(area, t);
     if below <= least {
         return least;
     }
-    if settled::settled(states, masks, hints, m, made, t) {
+    if settled::settled(states, words, hints, m, made, t) {
         return 200000;
     }
     least
@@ -61,7 +61,7 @@ fn with_first(
     area: &[u16],
     weights: &[u16],
     next: &[u16],
-    masks: &mut [u64],
+    words: &mut [u64],
     hints: &[u64],
     found: &mut [u8],
     guesses: &mut [u16],
@@ -72,8 +72,8 @@ fn with_first(
     c: usize,
     a: usize,
 ) -> Met
-    requires { ⌜ Ready (now states) (now area) (now weights) (now next) (now masks) (now found) (now guesses) m n search × (c < n) × (a < n) × (marked (now area) c a ≡ true) ⌝ }
-    ensures { λ r. ⌜ Kept (now (states .entry)) m (search .made) (now (masks .entry)) (now (masks .exit)) (now (guesses .exit))
+    requires { ⌜ Ready (now states) (now area) (now weights) (now next) (now words) (now found) (now guesses) m n search × (c < n) × (a < n) × (marked (now area) c a ≡ true) ⌝ }
+    ensures { λ r. ⌜ Kept (now (states .entry)) m (search .made) (now (words .entry)) (now (words .exit)) (now (guesses .exit))
         × Swept (WithFirst (now (weights .entry)) (now (states .entry)) (now (area .entry)) n (search .made) c a n)
         (Candidate (now (weights .entry)) (now (states .entry)) (now (area .entry)) n (search .made)) (now (found .entry)) search (now (found .exit)) (r .search)
         × Floored (WithFirst (now (weights .entry)) (now (states .entry)) (now (area .entry)) n (search .made) c a n) floor (r .floor) ⌝ }
@@ -84,7 +84,7 @@ fn with_first(
     while b < n {
         if c < a || area[128 * b + a] != 1 {
             let t = in_order(c, a, b);
-            let least = outlook(states, area, masks, hints, m, now.made, t, now.below);
+            let least = outlook(states, area, words, hints, m, now.made, t, now.below);
             low = lesser(low, least);
             if least < now.below {
                 now = visit(states, weights, found, guesses, now, t);
@@ -104,7 +104,7 @@ fn at_centre(
     area: &[u16],
     weights: &[u16],
     next: &[u16],
-    masks: &mut [u64],
+    words: &mut [u64],
     hints: &[u64],
     found: &mut [u8],
     guesses: &mut [u16],
@@ -113,8 +113,8 @@ fn at_centre(
     search: Search,
     c: usize,
 ) -> Met
-    requires { ⌜ Ready (now states) (now area) (now weights) (now next) (now masks) (now found) (now guesses) m n search × (c < n) ⌝ }
-    ensures { λ r. ⌜ Kept (now (states .entry)) m (search .made) (now (masks .entry)) (now (masks .exit)) (now (guesses .exit))
+    requires { ⌜ Ready (now states) (now area) (now weights) (now next) (now words) (now found) (now guesses) m n search × (c < n) ⌝ }
+    ensures { λ r. ⌜ Kept (now (states .entry)) m (search .made) (now (words .entry)) (now (words .exit)) (now (guesses .exit))
         × Swept (AtCentre (now (weights .entry)) (now (states .entry)) (now (area .entry)) n (search .made) c n)
         (Candidate (now (weights .entry)) (now (states .entry)) (now (area .entry)) n (search .made)) (now (found .entry)) search (now (found .exit)) (r .search)
         × Floored (AtCentre (now (weights .entry)) (now (states .entry)) (now (area .entry)) n (search .made) c n) 200000 (r .floor) ⌝ }
@@ -130,7 +130,7 @@ fn at_centre(
             area,
             weights,
             next,
-            masks,
+            words,
             hints,
             found,
             guesses,
@@ -153,7 +153,7 @@ pub fn sweep(
     weights: &[u16],
     next: &[u16],
     floors: &mut [usize],
-    masks: &mut [u64],
+    words: &mut [u64],
     hints: &[u64],
     found: &mut [u8],
     guesses: &mut [u16],
@@ -161,9 +161,9 @@ pub fn sweep(
     n: usize,
     search: Search,
 ) -> Search
-    requires { ⌜ Ready (now states) (now area) (now weights) (now next) (now masks) (now found) (now guesses) m n search
+    requires { ⌜ Ready (now states) (now area) (now weights) (now next) (now words) (now found) (now guesses) m n search
         × Floors (now weights) (now states) (now area) n (search .made) (now floors) ⌝ }
-    ensures { λ r. ⌜ Kept (now (states .entry)) m (search .made) (now (masks .entry)) (now (masks .exit)) (now (guesses .exit))
+    ensures { λ r. ⌜ Kept (now (states .entry)) m (search .made) (now (words .entry)) (now (words .exit)) (now (guesses .exit))
         × Swept (Everywhere (now (weights .entry)) (now (states .entry)) (now (area .entry)) n (search .made) n)
         (Candidate (now (weights .entry)) (now (states .entry)) (now (area .entry)) n (search .made)) (now (found .entry)) search (now (found .exit)) r
         × Floors (now (weights .entry)) (now (states .entry)) (now (area .entry)) n (search .made) (now (floors .exit)) ⌝ }
@@ -177,7 +177,7 @@ pub fn sweep(
                 area,
                 weights,
                 next,
-                masks,
+                words,
                 hints,
                 found,
                 guesses,

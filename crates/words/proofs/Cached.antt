@@ -10,9 +10,9 @@ use native.Mathlib.Omega.{arith}
 use lib.Dec.{eqb}
 use lib.ListN.{length, getD, set, replicate, length-set}
 use lib.Seq.{getD-set-same, getD-set-other}
-use borrow.Author.Tests.{eqb-true, eq-eqb}
-use Rattle.graph.proofs.Below.{same-tests}
+use borrow.Author.Tests.{eq-eqb}
 use Rattle.rules.specs.Job.{Bytes}
+use Rattle.rules.proofs.Distance.{eqb-sym}
 use Rattle.words.specs.Words.{differ, apartIn, none, Cached, Room}
 use Rattle.words.proofs.Words.{word-none, word-ext}
 
@@ -32,10 +32,6 @@ inside (x ∷ xs) zero d e h = refl
 inside (x ∷ xs) (suc i) d e h = inside xs i d e (omega arith)
 
 -- The order of two rows does not matter.
-eqb-sym : (a b : ℕ) → eqb a b ≡ eqb b a
-eqb-sym a b =
-    same-tests (eqb a b) (eqb b a) (λ e. eq-eqb b a (sym (eqb-true a b e))) (λ e. eq-eqb a b (sym (eqb-true b a e)))
-
 pub apart-sym : (states : Bytes) (m i j : ℕ) → apartIn states m i j ≡ apartIn states m j i
 apart-sym states m i j = word-ext (differ states i j) (differ states j i) (λ c. rw (eqb-sym (getD states (64 * i + c) 0) (getD states (64 * j + c) 0))) m 0
 
@@ -44,32 +40,32 @@ pub apart-self : (states : Bytes) (m i : ℕ) → apartIn states m i i ≡ 0
 apart-self states m i =
     word-ext (differ states i i) (λ c. false) (λ c. rw (eq-eqb (getD states (64 * i + c) 0) (getD states (64 * i + c) 0) refl)) m 0 ∙ word-none m 0
 
-module _ (states : Bytes) (m made : ℕ) (masks : List ℕ) (i j : ℕ) (hi : i < made) (hj : j < made) where
-  pub kept-right : Room states m made masks → getD masks (128 * i + j) 0 ≢ none → getD masks (128 * i + j) 0 ≡ apartIn states m i j
+module _ (states : Bytes) (m made : ℕ) (words : List ℕ) (i j : ℕ) (hi : i < made) (hj : j < made) where
+  pub kept-right : Room states m made words → getD words (128 * i + j) 0 ≢ none → getD words (128 * i + j) 0 ≡ apartIn states m i j
   kept-right room known =
-      let same = inside masks (128 * i + j) 0 none (omega (arith, room .few, room .words)) in
+      let same = inside words (128 * i + j) 0 none (omega (arith, room .few, room .space)) in
       ⊎-elim (λ e. absurd (known (same ∙ e))) (λ e. same ∙ e) (room .cached .each i j hi hj)
 
   -- One word is kept.
-  room-one : (r : ℕ) → r ≡ apartIn states m i j → Room states m made masks → Room states m made (set masks (128 * i + j) r)
+  room-one : (r : ℕ) → r ≡ apartIn states m i j → Room states m made words → Room states m made (set words (128 * i + j) r)
   room-one r e room = record {
     narrow = room .narrow;
     few = room .few;
     rows = room .rows;
-    words = rw length-set (room .words);
+    space = rw length-set (room .space);
     cached = record {
       each = λ a b ha hb. elim (ℕ-discrete (128 * a + b) (128 * i + j)) [
         | yes f ↦
             let at : a ≡ i = omega (arith, room .few) in
             let to : b ≡ j = omega (arith, room .few) in
-            inr (rw (at, to) (getD-set-same masks (128 * i + j) r none (omega (arith, room .few, room .words)) ∙ e))
-        | no f ↦ rw (getD-set-other masks (128 * i + j) (128 * a + b) r none f) (room .cached .each a b ha hb)
+            inr (rw (at, to) (getD-set-same words (128 * i + j) r none (omega (arith, room .few, room .space)) ∙ e))
+        | no f ↦ rw (getD-set-other words (128 * i + j) (128 * a + b) r none f) (room .cached .each a b ha hb)
       ];
     };
   }
 
 -- It is kept for both orders.
-pub room-both : (states : Bytes) (m made : ℕ) (masks : List ℕ) (i j r : ℕ) → i < made → j < made → r ≡ apartIn states m i j →
-    Room states m made masks → Room states m made (set (set masks (128 * i + j) r) (128 * j + i) r)
-room-both states m made masks i j r hi hj e room =
-    room-one states m made (set masks (128 * i + j) r) j i hj hi r (e ∙ apart-sym states m i j) (room-one states m made masks i j hi hj r e room)
+pub room-both : (states : Bytes) (m made : ℕ) (words : List ℕ) (i j r : ℕ) → i < made → j < made → r ≡ apartIn states m i j →
+    Room states m made words → Room states m made (set (set words (128 * i + j) r) (128 * j + i) r)
+room-both states m made words i j r hi hj e room =
+    room-one states m made (set words (128 * i + j) r) j i hj hi r (e ∙ apart-sym states m i j) (room-one states m made words i j hi hj r e room)

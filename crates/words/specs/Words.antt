@@ -37,13 +37,13 @@ abbrev pub none : ℕ
 none = 18446744073709551614
 
 -- Each word that is kept, 128 to a row, is not known or right.
-pub record Cached (states : Bytes) (m made : ℕ) (masks : List ℕ) : Type 0 where
-  pub each : (i j : ℕ) → i < made → j < made → (getD masks (128 * i + j) none ≡ none) ⊎ (getD masks (128 * i + j) none ≡ apartIn states m i j)
+pub record Cached (states : Bytes) (m made : ℕ) (words : List ℕ) : Type 0 where
+  pub each : (i j : ℕ) → i < made → j < made → (getD words (128 * i + j) none ≡ none) ⊎ (getD words (128 * i + j) none ≡ apartIn states m i j)
 
 -- There is room for the words of all pairs of rows made, and each that is kept is right or not known.
-pub record Room (states : Bytes) (m made : ℕ) (masks : List ℕ) : Type 0 where
+pub record Room (states : Bytes) (m made : ℕ) (words : List ℕ) : Type 0 where
   pub narrow : m ≤ 64
   pub few : made ≤ 128
   pub rows : 64 * made ≤ length states
-  pub words : 128 * made ≤ length masks
-  pub cached : Cached states m made masks
+  pub space : 128 * made ≤ length words
+  pub cached : Cached states m made words

@@ -66,17 +66,17 @@ fn apart(states: &[u8], m: usize, i: usize, j: usize) -> u64
 }
 
 // The same, kept or made now. It is kept for both orders of the rows.
-pub fn word_of(states: &[u8], masks: &mut [u64], m: usize, made: usize, i: usize, j: usize) -> u64
-    requires { ⌜ Room (now states) m made (now masks) × (i < made) × (j < made) ⌝ }
-    ensures { λ r. ⌜ (r ≡ apartIn (now (states .entry)) m i j) × Room (now (states .entry)) m made (now (masks .exit))
-        × (length (now (masks .exit)) ≡ length (now (masks .entry))) ⌝ }
+pub fn word_of(states: &[u8], words: &mut [u64], m: usize, made: usize, i: usize, j: usize) -> u64
+    requires { ⌜ Room (now states) m made (now words) × (i < made) × (j < made) ⌝ }
+    ensures { λ r. ⌜ (r ≡ apartIn (now (states .entry)) m i j) × Room (now (states .entry)) m made (now (words .exit))
+        × (length (now (words .exit)) ≡ length (now (words .entry))) ⌝ }
 {
-    let kept = masks[128 * i + j];
+    let kept = words[128 * i + j];
     if kept != NONE {
         return kept;
     }
     let found = apart(states, m, i, j);
-    masks[128 * i + j] = found;
-    masks[128 * j + i] = found;
+    words[128 * i + j] = found;
+    words[128 * j + i] = found;
     found
 }

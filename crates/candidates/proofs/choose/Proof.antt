@@ -45,8 +45,8 @@ all-swept : (c : tie.After-sweep2) → let f = first c in
 all-swept c = rw (c .before .before .before .before .before .for-all .ensures) at (c .sweep2 .ensures .1)
 
 -- There are as many words as before.
-kept-both : (c : tie.After-sweep2) → length (c .sweep2 .last .1 .1 .1 .1 .1 .0) ≡ length (start (first c) .args .masks .now)
-kept-both c = c .sweep2 .ensures .0 .masks-size ∙ first c .sweep .ensures .0 .masks-size
+kept-both : (c : tie.After-sweep2) → length (c .sweep2 .last .1 .1 .1 .1 .1 .0) ≡ length (start (first c) .args .words .now)
+kept-both c = c .sweep2 .ensures .0 .words-size ∙ first c .sweep .ensures .0 .words-size
 
 -- There is a candidate.
 not-lambda : (c : tie.After-sweep2) → first c .sweep .result .below ≢ 128001
@@ -90,7 +90,7 @@ with-rows-requires : tie.Need-with-rows-requires
 with-rows-requires c κs = search needs
 
 same-length : tie.Need-same-length
-same-length c = c .before .before .before .before .before .before .before .before .before .sweep .ensures .0 .masks-size
+same-length c = c .before .before .before .before .before .before .before .before .before .sweep .ensures .0 .words-size
 
 returns : tie.Need-returns
 returns c =

@@ -12,14 +12,14 @@ use Rattle.sweep.proofs.at_centre.Statement.{statement}
 use Rattle.sweep.proofs.at_centre.Tie as tie
 
 abbrev Inv-loop : tie.InvT-loop
-Inv-loop states area weights next masks₀ hints found₀ guesses₀ m n c now₀ a₀ masks found guesses now a =
+Inv-loop states area weights next words₀ hints found₀ guesses₀ m n c now₀ a₀ words found guesses now a =
     Walk area n c 0 a
-    × Kept states m (now₀ .search .made) masks₀ masks guesses
+    × Kept states m (now₀ .search .made) words₀ words guesses
     × Swept (AtCentre weights states area n (now₀ .search .made) c a) (Candidate weights states area n (now₀ .search .made)) found₀ (now₀ .search) found (now .search)
     × Floored (AtCentre weights states area n (now₀ .search .made) c a) (now₀ .floor) (now .floor)
 
 abbrev μ-loop : tie.MeasureT-loop
-μ-loop states area weights next masks₀ hints found₀ guesses₀ m n c now₀ a₀ masks found guesses now a = n - a
+μ-loop states area weights next words₀ hints found₀ guesses₀ m n c now₀ a₀ words found guesses now a = n - a
 
 -- The function's start, the follower of the next type, and that numbers of types are small.
 abbrev start : tie.At-loop Inv-loop μ-loop → tie.Start Inv-loop μ-loop
@@ -105,7 +105,7 @@ loop-again c =
     )
 
 same-length : tie.Need-same-length Inv-loop μ-loop
-same-length c = c .before .loop .inv .1 .masks-size
+same-length c = c .before .loop .inv .1 .words-size
 
 same-length-2 : tie.Need-same-length-2 Inv-loop μ-loop
 same-length-2 c = c .before .loop .inv .2 .size

@@ -12,14 +12,14 @@ use Rattle.sweep.proofs.sweep.Statement.{statement}
 use Rattle.sweep.proofs.sweep.Tie as tie
 
 abbrev Inv-loop : tie.InvT-loop
-Inv-loop states area weights next floors₀ masks₀ hints found₀ guesses₀ m n now₀ c₀ floors masks found guesses now c =
+Inv-loop states area weights next floors₀ words₀ hints found₀ guesses₀ m n now₀ c₀ floors words found guesses now c =
     (c ≤ n)
-    × Kept states m (now₀ .made) masks₀ masks guesses
+    × Kept states m (now₀ .made) words₀ words guesses
     × Swept (Everywhere weights states area n (now₀ .made) c) (Candidate weights states area n (now₀ .made)) found₀ now₀ found now
     × Floors weights states area n (now₀ .made) floors
 
 abbrev μ-loop : tie.MeasureT-loop
-μ-loop states area weights next floors₀ masks₀ hints found₀ guesses₀ m n now₀ c₀ floors masks found guesses now c = n - c
+μ-loop states area weights next floors₀ words₀ hints found₀ guesses₀ m n now₀ c₀ floors words found guesses now c = n - c
 
 -- The function's start, and that numbers of types are small.
 abbrev start : tie.At-loop Inv-loop μ-loop → tie.Start Inv-loop μ-loop
@@ -76,7 +76,7 @@ same-length : tie.Need-same-length Inv-loop μ-loop
 same-length c = c .before .loop .inv .3 .size ∙ sym (start (c .before) .pre .1 .size)
 
 same-length-2 : tie.Need-same-length-2 Inv-loop μ-loop
-same-length-2 c = c .before .loop .inv .1 .masks-size
+same-length-2 c = c .before .loop .inv .1 .words-size
 
 same-length-3 : tie.Need-same-length-3 Inv-loop μ-loop
 same-length-3 c = c .before .loop .inv .2 .size

@@ -19,14 +19,14 @@ use Rattle.sweep.proofs.with_first.Statement.{statement}
 use Rattle.sweep.proofs.with_first.Tie as tie
 
 abbrev Inv-loop : tie.InvT-loop
-Inv-loop states area weights next masks₀ hints found₀ guesses₀ m n floor c a now₀ low₀ b₀ masks found guesses now low b =
+Inv-loop states area weights next words₀ hints found₀ guesses₀ m n floor c a now₀ low₀ b₀ words found guesses now low b =
     Walk area n c (a + 1) b
-    × Kept states m (now₀ .made) masks₀ masks guesses
+    × Kept states m (now₀ .made) words₀ words guesses
     × Swept (WithFirst weights states area n (now₀ .made) c a b) (Candidate weights states area n (now₀ .made)) found₀ now₀ found now
     × Floored (WithFirst weights states area n (now₀ .made) c a b) floor low
 
 abbrev μ-loop : tie.MeasureT-loop
-μ-loop states area weights next masks₀ hints found₀ guesses₀ m n floor c a now₀ low₀ b₀ masks found guesses now low b = n - b
+μ-loop states area weights next words₀ hints found₀ guesses₀ m n floor c a now₀ low₀ b₀ words found guesses now low b = n - b
 
 -- The function's start, what a search needs now, the next type's follower, and the triplet met.
 abbrev start : tie.At-loop Inv-loop μ-loop → tie.Start Inv-loop μ-loop
@@ -34,7 +34,7 @@ start c = c .before .before .before .before .before .before .before .before .bef
 
 ready : (c : tie.At-loop Inv-loop μ-loop) →
     let s = start c .args in
-    Ready (s .states .now) (s .area .now) (s .weights .now) (s .next .now) (c .loop .masks) (c .loop .found) (c .loop .guesses) (s .m) (s .n) (c .loop .now)
+    Ready (s .states .now) (s .area .now) (s .weights .now) (s .next .now) (c .loop .words) (c .loop .found) (c .loop .guesses) (s .m) (s .n) (c .loop .now)
 ready c = still-ready (start c .pre .0) (c .loop .inv .2) (c .loop .inv .1)
 
 follower : (c : tie.In-loop Inv-loop μ-loop) →
@@ -163,7 +163,7 @@ loop-again c =
     )
 
 same-length : tie.Need-same-length Inv-loop μ-loop
-same-length c = c .before .loop .inv .1 .masks-size
+same-length c = c .before .loop .inv .1 .words-size
 
 same-length-2 : tie.Need-same-length-2 Inv-loop μ-loop
 same-length-2 c = c .before .loop .inv .2 .size

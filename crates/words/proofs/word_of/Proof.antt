@@ -27,29 +27,29 @@ returns c =
 apart-requires : tie.Need-apart-requires
 apart-requires c κs = search needs
 
-mul-masks : tie.Need-mul-masks
-mul-masks c = search needs
+mul-words : tie.Need-mul-words
+mul-words c = search needs
 
-add-masks : tie.Need-add-masks
-add-masks c = search needs
+add-words : tie.Need-add-words
+add-words c = search needs
 
-mul-masks-2 : tie.Need-mul-masks-2
-mul-masks-2 c = search needs
+mul-words-2 : tie.Need-mul-words-2
+mul-words-2 c = search needs
 
-slice-write-masks : tie.Need-slice-write-masks
-slice-write-masks c = search needs
+slice-write-words : tie.Need-slice-write-words
+slice-write-words c = search needs
 
-mul-masks-3 : tie.Need-mul-masks-3
-mul-masks-3 c = search needs
+mul-words-3 : tie.Need-mul-words-3
+mul-words-3 c = search needs
 
-add-masks-2 : tie.Need-add-masks-2
-add-masks-2 c = search needs
+add-words-2 : tie.Need-add-words-2
+add-words-2 c = search needs
 
-mul-masks-4 : tie.Need-mul-masks-4
-mul-masks-4 c = search needs
+mul-words-4 : tie.Need-mul-words-4
+mul-words-4 c = search needs
 
-slice-write-masks-2 : tie.Need-slice-write-masks-2
-slice-write-masks-2 c = simp length-set (omega arith)
+slice-write-words-2 : tie.Need-slice-write-words-2
+slice-write-words-2 c = simp length-set (omega arith)
 
 same-length : tie.Need-same-length
 same-length c = search needs
@@ -69,13 +69,13 @@ word-of-spec =
     slice-read-kept
     returns
     apart-requires
-    mul-masks
-    add-masks
-    mul-masks-2
-    slice-write-masks
-    mul-masks-3
-    add-masks-2
-    mul-masks-4
-    slice-write-masks-2
+    mul-words
+    add-words
+    mul-words-2
+    slice-write-words
+    mul-words-3
+    add-words-2
+    mul-words-4
+    slice-write-words-2
     same-length
     returns-2)
