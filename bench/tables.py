@@ -11,7 +11,7 @@ import tempfile
 import jobs
 
 HERE = os.path.dirname(os.path.realpath(__file__))
-STORED = os.path.join(HERE, "..", "crates", "vectors", "data")
+STORED = os.path.join(HERE, "..", "crates", "test_vectors", "data")
 PROGRAM = os.path.join(HERE, "..", "target", "bin", "hurdlesong")
 LISTED = "P5 R1 R3 cube7_w64_huge slow_core96 climb_okrounds_1 w_rand_64_01".split()
 COUNTER = ["valgrind", "--tool=cachegrind", "--cache-sim=no", "--cachegrind-out-file=/dev/null"]

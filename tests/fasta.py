@@ -1,5 +1,5 @@
 #!/usr/bin/env python3
-"""Writes what the program `alignments` is run on and what it must print: crates/alignments/args, data/hand_*.fasta and stdout.
+"""Writes what the program `test_fasta` is run on and what it must print: crates/test_fasta/args, data/hand_*.fasta and stdout.
 
 The stored texts (data/*.fasta with their .out, epsilons in data/INDEX) come with their answers. The answers below were written by hand
 from request A1, every refusal at the first and the last byte or sequence where it can be met; no FASTA text is read here.
@@ -7,7 +7,7 @@ from request A1, every refusal at the first and the last byte or sequence where 
 import pathlib
 
 ROOM = 16524
-here = pathlib.Path(__file__).resolve().parent.parent / "crates" / "alignments"
+here = pathlib.Path(__file__).resolve().parent.parent / "crates" / "test_fasta"
 data = here / "data"
 
 

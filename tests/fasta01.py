@@ -5,7 +5,7 @@ answer(text, epsilon, lent) -> (number, place, used, block), written from the re
 the text is cut into lines with their offsets, then the lines are read one after another.
 Number 0 is success; 20 to 26 are the refusals, whose `used` is 0 and whose block is empty.
 
-Its author had not seen the library. Run as a program, it compares the built program `alignments` with answer() on texts made from a seed:
+Its author had not seen the library. Run as a program, it compares the built program `test_fasta` with answer() on texts made from a seed:
     python3 tests/fasta01.py [SEED]   prints the counts by group and answer, and every kind of difference; some 340,000 texts, many minutes
 """
 import collections, itertools, os, pathlib, platform, random, shutil, struct, subprocess, sys, tempfile
@@ -213,7 +213,7 @@ def command():
     """The program is for x86-64 Linux; on another processor the toolchain's emulator runs it."""
     kit = pathlib.Path(os.path.realpath(shutil.which("rt"))).parent.parent
     tools = kit / "on" / platform.machine() / "toolchain"
-    program = pathlib.Path(__file__).resolve().parent.parent / "target" / "bin" / "alignments"
+    program = pathlib.Path(__file__).resolve().parent.parent / "target" / "bin" / "test_fasta"
     words = [tools / "lib" / "ld-linux-x86-64.so.2", "--library-path", tools / "lib", program]
     emulator = tools / "bin" / "qemu-x86_64"
     return [str(w) for w in ([emulator] if emulator.exists() else []) + words]

@@ -1,4 +1,4 @@
-"""The questions of the program `parts`, and what it must print: `python3 tests/parts.py` writes crates/parts/stdin and crates/parts/stdout.
+"""The questions of the program `test_parts`, and what it must print: `python3 tests/parts.py` writes crates/test_parts/stdin and crates/test_parts/stdout.
 
 The answers come from rules01.py and links01.py, which were written from document 01 and document 000 alone.
 """
@@ -181,6 +181,6 @@ for epsilon in 0, 31999, 32000, 65535:
 for epsilon in range(3):
     purged("R1", [1, 1], epsilon, [chr(65 + i % 8) + chr(65 + i // 8) for i in range(128)], each=False)
 
-crate = pathlib.Path(__file__).parent.parent / "crates" / "parts"
+crate = pathlib.Path(__file__).parent.parent / "crates" / "test_parts"
 (crate / "stdin").write_bytes(questions)
 (crate / "stdout").write_text("\n".join(lines) + "\n")

@@ -1,5 +1,5 @@
 #!/usr/bin/env bash
-# tests/second.sh [--jobs N] [--seed S]: generated jobs, answered by the proved program `worker` and by the second opinion in tests/second,
+# tests/second.sh [--jobs N] [--seed S]: generated jobs, answered by the proved program `test_worker` and by the second opinion in tests/second,
 # which was written from document 01 alone; whole answers are compared, byte by byte. The default is 10,000 jobs of seed 1. Before that the
 # second opinion passes its own tests: document 01's cases, each refusal's bounds, and facts tried by brute force. The program is proved and
 # built first where that is not done yet. The exit status is 0 only if every job was compared and none differs. With --build alone the second
@@ -23,7 +23,7 @@ package=(--quiet --release --offline --locked --manifest-path tests/second/Cargo
 quietly cargo test "${package[@]}"
 quietly cargo build "${package[@]}"
 [ "${1:-}" != --build ] || exit 0
-quietly rt check worker
+quietly rt check test_worker
 . scripts/runner.sh
-runner worker
+runner test_worker
 exec target/second/release/second "$@" "${run[@]}"

@@ -13,15 +13,15 @@ use Rattle.rules.specs.Call.{Verdict, refused, found, verdict, written, answer,
 use Rattle.rules.specs.Text.{printed}
 use Rattle.rules.specs.declared.Answer.{Answer}
 use Rattle.rules.specs.declared.Answer.the-variants.{Done, Area, Head, Rows, Width, Layout, Weight, State, Types, Room, Split}
-use Rattle.found.specs.ReadBack.{readBack}
-use Rattle.found.proofs.Found.{answered, verdict-numbered}
-use Rattle.found.proofs.Result.{read-result}
+use Rattle.readback.specs.ReadBack.{readBack}
+use Rattle.readback.proofs.Found.{answered, verdict-numbered}
+use Rattle.readback.proofs.Result.{read-result}
 use Rattle.text.specs.Printed.{printedBytes}
 use Rattle.text.specs.declared.Printed.{Printed}
 use Rattle.network.proofs.Left.{zero-at}
-use Rattle.demands.specs.Drawing.{Drawing}
+use Rattle.claims.specs.Drawing.{Drawing}
 use Rattle.claims.specs.Calls.{Memory, SameLengths, lengthsOf, Calls, Serves}
-use Rattle.demands.proofs.Drawn.{drawn}
+use Rattle.claims.proofs.Drawn.{drawn}
 
 -- ── Leftovers ──
 

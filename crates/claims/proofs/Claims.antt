@@ -25,9 +25,9 @@ use Rattle.rules.specs.declared.Answer.the-variants.{Split}
 use Rattle.rules.proofs.Table as table
 use Rattle.rules.proofs.Ends as ends
 use Rattle.rules.proofs.Decimals as decimals
-use Rattle.found.specs.ReadBack.{readBack}
-use Rattle.found.proofs.Found as network
-use Rattle.found.proofs.Result as result
+use Rattle.readback.specs.ReadBack.{readBack}
+use Rattle.readback.proofs.Found as network
+use Rattle.readback.proofs.Result as result
 use Rattle.answers.specs.Told.{Tells}
 use Rattle.answers.specs.declared.Told.{Told}
 use Rattle.text.specs.Printed.{ToldText, textRoom, textOf, printedBytes, RefusalLeft, TextLeft, BriefLeft}
@@ -41,17 +41,17 @@ use Rattle.lookup.specs.declared.Place.{Place}
 use Rattle.lookup.proofs.Places as places
 use Rattle.hurdlesong_c.specs.Interface.{TextTold}
 use Rattle.hurdlesong_c.proofs.Interface as interface
-use Rattle.made.specs.Answers.{madeNumber, madeUsed}
-use Rattle.made.specs.declared.Made.{Made}
-use Rattle.alignment.specs.Sequences.{sequences, sequence}
+use Rattle.fasta.specs.Answers.{madeNumber, madeUsed}
+use Rattle.fasta.specs.declared.made.Made.{Made}
+use Rattle.fasta.specs.Sequences.{sequences, sequence}
 use Rattle.fasta.specs.Turned.{Turned}
-use Rattle.demands.specs.Drawing.{Drawing}
-use Rattle.demands.specs.Refusals.{Condition, Turn}
+use Rattle.claims.specs.Drawing.{Drawing}
+use Rattle.claims.specs.Refusals.{Condition, Turn}
 use Rattle.claims.specs.Calls.{Memory, SameLengths, lengthsOf, Calls, Serves, CallsTold}
 use Rattle.claims.specs.Formed.{NotForForm}
 use Rattle.claims.specs.Handed.{Handed}
-use Rattle.demands.proofs.Drawn as drawing
-use Rattle.demands.proofs.Refusals as refusals
+use Rattle.claims.proofs.Drawn as drawing
+use Rattle.claims.proofs.Refusals as refusals
 use Rattle.claims.proofs.Calls as calls
 use Rattle.claims.proofs.Fasta as fasta
 use Rattle.claims.proofs.Handed as handed

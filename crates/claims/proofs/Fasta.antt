@@ -16,13 +16,13 @@ use Rattle.rules.specs.Run.{Outcome, settled, full, phaseTwo, split}
 use Rattle.rules.specs.Call.{Verdict, refused, found, _then_, ended, outcome, verdict, answer, answerTo}
 use Rattle.rules.specs.declared.Answer.{Answer}
 use Rattle.rules.specs.declared.Answer.the-variants.{Area, Types, Split}
-use Rattle.made.specs.Answers.{madeNumber, madeUsed, refuses}
-use Rattle.made.specs.declared.Made.{Made}
-use Rattle.alignment.specs.Sequences.{sequences, sequence}
-use Rattle.alignment.proofs.Readable.{readable}
+use Rattle.fasta.specs.Answers.{madeNumber, madeUsed, refuses}
+use Rattle.fasta.specs.declared.made.Made.{Made}
+use Rattle.fasta.specs.Sequences.{sequences, sequence}
+use Rattle.fasta.proofs.alignment.Readable.{readable}
 use Rattle.fasta.specs.Block.{jobOf}
 use Rattle.fasta.specs.Turned.{turned, jobAfter, Turned}
-use Rattle.fasta.proofs.Made as made
+use Rattle.fasta.proofs.JobOf as made
 use Rattle.fasta.proofs.Ready.{Ready, enough, ready, used-written}
 use Rattle.claims.specs.Formed.{NotForForm}
 use Rattle.claims.proofs.Calls.{zeros-behind}

@@ -12,8 +12,8 @@ use Rattle.rules.specs.Job.{Bytes, rows, width}
 use Rattle.rules.specs.Result.{linksOffset}
 use Rattle.rules.specs.Lookup.{lookup}
 use Rattle.rules.proofs.Job.{passed-is}
-use Rattle.matching.specs.Match.{matches}
-use Rattle.matching.proofs.Match.{matched-is}
+use Rattle.lookup.specs.Match.{matches}
+use Rattle.lookup.proofs.matching.Match.{matched-is}
 use Rattle.lookup.specs.Places.{Points}
 use Rattle.lookup.proofs.Places.{in-job, in-result, no-states}
 use Rattle.lookup.proofs.Rows.{unmatched, past, sampled-out, sampled-row, inferred-out, inferred-row}

@@ -1,3 +1,5 @@
 pub mod Calls
 pub mod Formed
 pub mod Handed
+pub mod Drawing
+pub mod Refusals

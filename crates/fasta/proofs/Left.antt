@@ -14,19 +14,19 @@ use Rattle.rules.proofs.Block.{length-words, length-parts}
 use Rattle.memory.specs.Placed.{placed, Follows}
 use Rattle.memory.proofs.Placed.{placed-padded}
 use Rattle.memory.proofs.Follows.{follows-once, follows-on}
-use Rattle.made.specs.Answers.{madeNumber, refuses}
-use Rattle.made.specs.declared.Made.{Made}
-use Rattle.made.specs.declared.Made.the-variants.{Done, Short}
-use Rattle.made.proofs.Answers.{refuses-told, passes-told}
-use Rattle.alignment.specs.Sequences.{sequences, sequence, states}
-use Rattle.alignment.specs.Refusals.{measured}
-use Rattle.alignment.specs.Read.{MeasuredAs}
-use Rattle.alignment.specs.declared.Measured.{Measured}
-use Rattle.alignment.proofs.Joined.{states-joined}
-use Rattle.alignment.proofs.Readable.{readable}
+use Rattle.fasta.specs.Answers.{madeNumber, refuses}
+use Rattle.fasta.specs.declared.made.Made.{Made}
+use Rattle.fasta.specs.declared.made.Made.the-variants.{Done, Short}
+use Rattle.fasta.proofs.made.Answers.{refuses-told, passes-told}
+use Rattle.fasta.specs.Sequences.{sequences, sequence, states}
+use Rattle.fasta.specs.Refusals.{measured}
+use Rattle.fasta.specs.Read.{MeasuredAs}
+use Rattle.fasta.specs.declared.alignment.Measured.{Measured}
+use Rattle.fasta.proofs.alignment.Joined.{states-joined}
+use Rattle.fasta.proofs.alignment.Readable.{readable}
 use Rattle.fasta.specs.Block.{headOf, weightsOf, jobOf}
 use Rattle.fasta.specs.Turned.{jobRoom, turned, jobAfter, Turned}
-use Rattle.fasta.proofs.Made.{widthOf, length-job, job-fits}
+use Rattle.fasta.proofs.JobOf.{widthOf, length-job, job-fits}
 use Rattle.fasta.proofs.Written.{length-weights}
 
 -- ── A text that is not refused ──

@@ -1,4 +1,4 @@
-pub mod Made
+pub mod JobOf
 pub mod Written
 pub mod Left
 pub mod Ready

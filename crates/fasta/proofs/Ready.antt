@@ -13,11 +13,11 @@ use borrow.Author.Tests.{lt-ltb, le-ltb}
 use Rattle.graph.proofs.Below.{is-false, is-true}
 use Rattle.rules.specs.Job.{Bytes}
 use Rattle.rules.specs.Call.{padded}
-use Rattle.made.specs.Answers.{madeNumber, madeUsed, refuses, when_refuse_else_}
-use Rattle.made.specs.declared.Made.{Made}
-use Rattle.made.specs.declared.Made.the-variants.{Done, Short, Before, Byte, Wide, Many, Empty, Uneven}
-use Rattle.made.proofs.Answers.{passes-told}
-use Rattle.alignment.specs.Refusals.{measured}
+use Rattle.fasta.specs.Answers.{madeNumber, madeUsed, refuses, when_refuse_else_}
+use Rattle.fasta.specs.declared.made.Made.{Made}
+use Rattle.fasta.specs.declared.made.Made.the-variants.{Done, Short, Before, Byte, Wide, Many, Empty, Uneven}
+use Rattle.fasta.proofs.made.Answers.{passes-told}
+use Rattle.fasta.specs.Refusals.{measured}
 use Rattle.fasta.specs.Block.{jobOf}
 use Rattle.fasta.specs.Turned.{jobRoom, turned, jobAfter, Turned}
 

@@ -13,7 +13,7 @@ use Rattle.rules.proofs.Block.{length-words}
 use Rattle.memory.specs.Placed.{placed, Follows}
 use Rattle.memory.proofs.Placed.{placed-none}
 use Rattle.memory.proofs.Follows.{follows-once, follows-on}
-use Rattle.fasta_lines.specs.Lines.{byteAt, isState}
+use Rattle.fasta.specs.Lines.{byteAt, isState}
 use Rattle.fasta.specs.Block.{weightsOf}
 
 -- ── Weights ──

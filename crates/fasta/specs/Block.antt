@@ -5,7 +5,7 @@ use lib.ListN.{length, replicate}
 use Rattle.graph.specs.Below.{gather}
 use Rattle.rules.specs.Job.{Bytes}
 use Rattle.rules.specs.Result.{words}
-use Rattle.alignment.specs.Sequences.{sequences, sequence}
+use Rattle.fasta.specs.Sequences.{sequences, sequence}
 
 -- The six numbers, as document 01's job block has them: rows n, width m, epsilon, and three that must be 12, 12 + 2m and 12 + 2m + nm.
 abbrev pub headOf : ℕ → ℕ → ℕ → List ℕ

@@ -7,10 +7,10 @@ use lib.Dec.{ltb}
 use lib.ListN.{length}
 use Rattle.rules.specs.Job.{Bytes}
 use Rattle.rules.specs.Call.{padded}
-use Rattle.made.specs.Answers.{refuses, when_refuse_else_}
-use Rattle.made.specs.declared.Made.{Made}
-use Rattle.made.specs.declared.Made.the-variants.{Done, Short}
-use Rattle.alignment.specs.Refusals.{measured}
+use Rattle.fasta.specs.Answers.{refuses, when_refuse_else_}
+use Rattle.fasta.specs.declared.made.Made.{Made}
+use Rattle.fasta.specs.declared.made.Made.the-variants.{Done, Short}
+use Rattle.fasta.specs.Refusals.{measured}
 use Rattle.fasta.specs.Block.{jobOf}
 
 -- The job is lent 16,524 bytes or more.

@@ -1,23 +1,27 @@
 // The room of FASTA: a text and an epsilon become a job block with all weights 1, in memory that is lent. The text is only read.
 
+pub mod alignment;
+pub mod fasta_lines;
+pub mod made;
+
 ghost use mathlib.Core.Path.{_≡_};
 ghost use Prim.Native.Nat.{_+_, _*_, _≤_};
 ghost use lib.ListN.{length};
 ghost use Rattle.graph.specs.Below.{only};
 ghost use Rattle.rules.specs.Result.{words};
 ghost use Rattle.memory.specs.Placed.{placed, Follows};
-ghost use Rattle.fasta_lines.specs.Lines.{byteAt, isState, AtByte};
-ghost use Rattle.alignment.specs.Sequences.{states};
+ghost use Rattle.fasta.specs.Lines.{byteAt, isState, AtByte};
+ghost use Rattle.fasta.specs.Sequences.{states};
 ghost use Rattle.fasta.specs.Block.{headOf, weightsOf};
 ghost use Rattle.fasta.specs.Turned.{Turned};
-use alignment::measure;
-use fasta_lines::is_state;
-use fasta_lines::next_line;
-use made::Made;
-use made::tell_made;
+use crate::alignment::measure;
+use crate::fasta_lines::is_state;
+use crate::fasta_lines::next_line;
+use crate::made::Made;
+use crate::made::tell_made;
 use memory::clear_bytes;
 use memory::put_word;
-use records::put_three;
+use result::records::put_three;
 
 // The six numbers of the header.
 fn put_head(n: usize, m: usize, epsilon: usize, job: &mut [u8])

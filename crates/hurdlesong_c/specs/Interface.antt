@@ -9,8 +9,8 @@ use Rattle.rules.specs.Job.{Bytes}
 use Rattle.rules.specs.Call.{answer, padded}
 use Rattle.rules.specs.Text.{networkText}
 use Rattle.rules.specs.declared.Link.{Link}
-use Rattle.found.specs.ReadBack.{readBack}
-use Rattle.listing.specs.Lines.{legible}
+use Rattle.readback.specs.ReadBack.{readBack}
+use Rattle.text.specs.Lines.{legible}
 use Rattle.answers.specs.Told.{ToldOf}
 use Rattle.answers.specs.declared.Told.{Told}
 use Rattle.text.specs.Printed.{textRoom, refusalOf, printedBytes, ToldText}

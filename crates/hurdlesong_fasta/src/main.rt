@@ -6,10 +6,10 @@ ghost use mathlib.Core.Path.{_≡_};
 ghost use Prim.Native.Nat.{_≤_};
 ghost use lib.ListN.{length};
 ghost use Rattle.hurdlesong_fasta.specs.Fits.{Fits};
-use fasta_service::answer_fasta;
 use memory::copy;
-use numerals::Numeral;
-use numerals::read_number;
+use memory::numerals::Numeral;
+use memory::numerals::read_number;
+use service::fasta_service::answer_fasta;
 
 // What came of reading a text: all of it, so many bytes; as much as there is room for; or a read that failed.
 enum Input {

@@ -1,1 +1,3 @@
 pub mod Header
+pub mod Areas
+pub mod Stages

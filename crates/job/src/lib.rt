@@ -1,6 +1,10 @@
 // The room of the job block: what is read off a job that passed the checks: its fields, its weights and its rows. The job is only
 // read.
 
+pub mod areas;
+pub mod checks;
+pub mod contents;
+
 ghost use mathlib.Core.Path.{_≡_};
 ghost use Prim.Native.Nat.{_≤_, _<_};
 ghost use lib.ListN.{length};

@@ -10,8 +10,8 @@ use lib.Seq.{length-take-le}
 use borrow.Author.Tests.{ltb-true, lt-ltb, le-ltb}
 use Rattle.rules.specs.Job.{Bytes, rows, width}
 use Rattle.rules.specs.Lookup.{Part, typesIn, sampledTypes, placeIn, sampledPart, inferredPart, inJob, inResult, nowhere, partOf, statesOf, lookup}
-use Rattle.matching.specs.Match.{matches}
-use Rattle.matching.proofs.Match.{Matched, matched-is}
+use Rattle.lookup.specs.Match.{matches}
+use Rattle.lookup.proofs.matching.Match.{Matched, matched-is}
 use Rattle.lookup.specs.Places.{sourceOf, startOf, Points}
 use Rattle.lookup.specs.declared.Place.{Place}
 use Rattle.lookup.proofs.Places.{sourced}

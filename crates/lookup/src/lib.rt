@@ -1,14 +1,16 @@
 // The room of the row lookup: the states of a type as a part of the caller's job or of the caller's result block, and where that part
 // lies, in numbers. Any job, any block and any number may be asked about, damaged ones too. It alters nothing.
 
+pub mod matching;
+
 ghost use mathlib.Core.Path.{_≡_};
 ghost use mathlib.Core.Bool.{true};
 ghost use Prim.Native.Nat.{_+_, _≤_};
 ghost use lib.ListN.{length, take, drop};
 ghost use Rattle.rules.specs.Lookup.{lookup};
-ghost use Rattle.matching.specs.Match.{matches};
+ghost use Rattle.lookup.specs.Match.{matches};
 ghost use Rattle.lookup.specs.Places.{Points};
-use matching::block_matches;
+use crate::matching::block_matches;
 use memory::word_at;
 
 // Where the states of a type lie: in the job (1), in the result block (2) or nowhere (0); from which byte on; how many.

@@ -1,1 +1,4 @@
 pub mod Cost
+pub mod Known
+pub mod Search
+pub mod Swept

@@ -1,5 +1,9 @@
 // The room of median vectors: the three median vectors of a triplet, and their connection cost. It reads the state area.
 
+pub mod known;
+pub mod search;
+pub mod visit;
+
 ghost use mathlib.Core.Path.{_≡_};
 ghost use Prim.Native.Nat.{_+_, _*_, _≤_};
 ghost use lib.ListN.{length};

@@ -1,3 +1,4 @@
 pub mod Placed
 pub mod Digits
 pub mod Word
+pub mod Numeral

@@ -1,6 +1,9 @@
 // The room of lent memory: numbers of 16 bits in bytes, eight bytes at once, clearing to the end, copying into a part. Leaf code: every other room
 // reads and writes through it, and it knows nothing of jobs or types.
 
+pub mod lines;
+pub mod numerals;
+
 ghost use mathlib.Core.Path.{_≡_};
 ghost use mathlib.Core.List.{[], _∷_};
 ghost use Prim.Native.Nat.{_+_, _≤_, _<_};

@@ -13,15 +13,15 @@ use Rattle.rules.specs.Call.{Verdict, refused, found, verdict, written, resultA
 use Rattle.rules.specs.declared.Link.{Link}
 use Rattle.memory.specs.Placed.{placed}
 use Rattle.memory.proofs.Placed.{placed-none, placed-twice, getD-placed, length-placed, placed-padded}
-use Rattle.found.proofs.Lent.{enough}
-use Rattle.found.proofs.Found.{found-is}
-use Rattle.found.proofs.Result.{writable, few-links, block-short}
-use Rattle.ordered.specs.Order.{noLink}
+use Rattle.readback.proofs.Lent.{enough}
+use Rattle.readback.proofs.Found.{found-is}
+use Rattle.readback.proofs.Result.{writable, few-links, block-short}
+use Rattle.result.specs.Order.{noLink}
 use Rattle.purge.specs.Network.{linksIn}
 use Rattle.result.proofs.Parts.{block-is, block-size}
-use Rattle.table.specs.Table.{Listable, linkBytes, tableBytes}
-use Rattle.draw.specs.declared.Sketch.{Sketch}
-use Rattle.draw.specs.Drawn.{sketched, linksOf, typesOf}
+use Rattle.result.specs.Table.{Listable, linkBytes, tableBytes}
+use Rattle.network.specs.declared.draw.Sketch.{Sketch}
+use Rattle.network.specs.Drawn.{sketched, linksOf, typesOf}
 use Rattle.network.specs.Called.{lentBy, Unlinked, Called}
 
 -- ── A verdict's links ──

@@ -9,10 +9,10 @@ use Rattle.rules.specs.Job.{Bytes, checked}
 use Rattle.rules.specs.Lent.{Lent}
 use Rattle.rules.specs.declared.Answer.{Answer}
 use Rattle.answers.specs.Told.{firstOf}
-use Rattle.areas.specs.Areas.{lengths, areasAnswer}
-use Rattle.draw.specs.declared.Sketch.{Sketch}
-use Rattle.draw.specs.Drawn.{unsketched, Drawn}
-use Rattle.draw.proofs.Verdicts.{first-verdict, first-passed, wrote-nothing}
+use Rattle.job.specs.Areas.{lengths, areasAnswer}
+use Rattle.network.specs.declared.draw.Sketch.{Sketch}
+use Rattle.network.specs.Drawn.{unsketched, Drawn}
+use Rattle.network.proofs.draw.Verdicts.{first-verdict, first-passed, wrote-nothing}
 use Rattle.network.specs.Called.{Answered, Unlinked}
 
 module _ (job result states : Bytes) (distances : List ℕ) (links : ℕ) where

@@ -8,9 +8,9 @@ use Rattle.rules.specs.Lent.{Lent}
 use Rattle.rules.specs.Call.{Served}
 use Rattle.rules.specs.declared.Answer.{Answer}
 use Rattle.rules.specs.declared.Link.{Link}
-use Rattle.areas.specs.Areas.{lengths}
-use Rattle.draw.specs.declared.Sketch.{Sketch}
-use Rattle.draw.specs.Drawn.{Sketched}
+use Rattle.job.specs.Areas.{lengths}
+use Rattle.network.specs.declared.draw.Sketch.{Sketch}
+use Rattle.network.specs.Drawn.{Sketched}
 
 -- The lengths lent.
 abbrev pub lentBy : Bytes → Bytes → List ℕ → List Link → Lent

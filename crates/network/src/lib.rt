@@ -1,21 +1,22 @@
 // The room of the call: every job is answered. The result holds the network's block and zeros behind it, or zeros throughout; all work
 // memory is zero to its end. The job is only read, and what lay in the memory before does not matter.
 
+pub mod draw;
+
 ghost use Rattle.network.specs.Called.{Answered, Called, Unlinked};
+use crate::draw::Sketch;
+use crate::draw::nothing;
 use answers::first_of;
 use answers::tell;
-use areas::check_areas;
-use checks::check;
-use draw::Sketch;
-use draw::draw;
-use draw::nothing;
+use job::areas::check_areas;
+use job::checks::check;
 use memory::clear_bytes;
 use memory::clear_words;
+use result::table::clear;
+use result::table::list;
+use result::table::put;
 use rules::Answer;
 use rules::Link;
-use table::clear;
-use table::list;
-use table::put;
 
 // The refusals in the order they are tried, or the network up to its links. So many records of the link table are lent.
 fn answer_job(
@@ -34,7 +35,7 @@ fn answer_job(
     if told.number != 0 {
         return nothing(first);
     }
-    draw(job, result, states, distances)
+    draw::draw(job, result, states, distances)
 }
 
 // All that the call does but for the links and the areas that they are in.

@@ -24,9 +24,9 @@ use Rattle.types.proofs.State.{row-back, row-of, kinds-at}
 use Rattle.distances.proofs.Area.{cell-or-not}
 use Rattle.links.specs.Marks.{Tells}
 use Rattle.links.proofs.Marks.{same-mark}
-use Rattle.state.specs.State.{epsilonOf}
+use Rattle.purge.specs.State.{epsilonOf}
 use Rattle.purge.specs.Holds.{Holds, Purged, runIn}
-use Rattle.state.specs.declared.Held.{Held}
+use Rattle.purge.specs.declared.state.Held.{Held}
 use Rattle.purge.proofs.Told.{rows-count}
 use Rattle.purge.proofs.Once.{current-few}
 

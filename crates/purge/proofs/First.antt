@@ -14,7 +14,7 @@ use Rattle.types.proofs.State.{OfWidth, laid-at}
 use Rattle.distances.specs.Area.{Written, New, storedApart}
 use Rattle.distances.proofs.Measured.{measures-all}
 use Rattle.purge.specs.Holds.{Holds}
-use Rattle.state.specs.declared.Phase.{Phase}
+use Rattle.purge.specs.declared.state.Phase.{Phase}
 
 all-zero : (n p : ℕ) → getD {A = ℕ} (replicate n 0) p 0 ≡ 0
 all-zero zero p = refl

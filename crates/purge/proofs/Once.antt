@@ -24,16 +24,16 @@ use Rattle.types.specs.State.{laid, blank, kindOf}
 use Rattle.types.proofs.State.{OfWidth, length-laid, row-of, kinds-at, kinds-is}
 use Rattle.distances.specs.Area.{Measures}
 use Rattle.distances.proofs.Area.{cell-or-not}
-use Rattle.retire.specs.Left.{Chosen, isKept}
-use Rattle.retire.proofs.Kept.{kept-gather}
-use Rattle.retire.proofs.Laid.{partedRows, parted-wide, parted-laid}
+use Rattle.purge.specs.Left.{Chosen, isKept}
+use Rattle.purge.proofs.retire.Kept.{kept-gather}
+use Rattle.purge.proofs.retire.Laid.{partedRows, parted-wide, parted-laid}
 use Rattle.links.specs.Marks.{Tells}
-use Rattle.stay.specs.Stay.{staying, Stays}
+use Rattle.purge.specs.Stay.{staying, Stays}
 use Rattle.purge.specs.Once.{Once}
 use Rattle.purge.specs.Holds.{Holds}
-use Rattle.state.specs.declared.Held.{Held}
-use Rattle.stay.specs.declared.Stay.{Stay}
-use Rattle.stay.proofs.Places.{stays-chosen, stays-kept}
+use Rattle.purge.specs.declared.state.Held.{Held}
+use Rattle.purge.specs.declared.stay.Stay.{Stay}
+use Rattle.purge.proofs.stay.Places.{stays-chosen, stays-kept}
 use Rattle.purge.proofs.Told.{staying-is}
 
 pub current-few : {m : ℕ} {ws : List ℕ} {run : Run} {states : Bytes} {area : List ℕ} {held : Held} → Holds m ws run states area held →

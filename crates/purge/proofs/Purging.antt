@@ -9,17 +9,17 @@ use Rattle.rules.specs.Types.{rowsOf}
 use Rattle.rules.specs.Purge.{Run, linksOf, purgeOnce, purge}
 use Rattle.rules.proofs.Ends.{purge-again, purge-none}
 use Rattle.memory.proofs.Placed.{length-placed}
-use Rattle.retire.specs.Left.{Chosen, parted}
-use Rattle.retire.proofs.Parted.{parted-size}
+use Rattle.purge.specs.Left.{Chosen, parted}
+use Rattle.purge.proofs.retire.Parted.{parted-size}
 use Rattle.links.specs.Marks.{Tells}
-use Rattle.state.specs.State.{epsilonOf}
-use Rattle.stay.specs.Stay.{staying, Stays}
+use Rattle.purge.specs.State.{epsilonOf}
+use Rattle.purge.specs.Stay.{staying, Stays}
 use Rattle.purge.specs.Once.{Once, Surveyed}
 use Rattle.purge.specs.Holds.{Holds, Purged}
-use Rattle.state.specs.declared.Held.{Held}
-use Rattle.stay.specs.declared.Stay.{Stay}
-use Rattle.stay.proofs.Places.{stays-chosen}
-use Rattle.stay.proofs.Staying.{stayIn}
+use Rattle.purge.specs.declared.state.Held.{Held}
+use Rattle.purge.specs.declared.stay.Stay.{Stay}
+use Rattle.purge.proofs.stay.Places.{stays-chosen}
+use Rattle.purge.proofs.stay.Staying.{stayIn}
 use Rattle.purge.proofs.Told.{survey-holds, survey-tells, fewer-stay, all-stay}
 use Rattle.purge.proofs.Once.{once-holds}
 

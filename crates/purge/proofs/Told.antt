@@ -14,11 +14,11 @@ use Rattle.types.specs.State.{blank}
 use Rattle.types.proofs.State.{kinds-at}
 use Rattle.links.specs.Marks.{LinksFound, Tells}
 use Rattle.links.proofs.Told.{measures-still, told, counted}
-use Rattle.stay.specs.Stay.{obsoleteIn, staying, Stays}
+use Rattle.purge.specs.Stay.{obsoleteIn, staying, Stays}
 use Rattle.purge.specs.Holds.{Holds}
-use Rattle.state.specs.declared.Held.{Held}
-use Rattle.stay.specs.declared.Stay.{Stay}
-use Rattle.stay.proofs.Places.{some-go, none-goes}
+use Rattle.purge.specs.declared.state.Held.{Held}
+use Rattle.purge.specs.declared.stay.Stay.{Stay}
+use Rattle.purge.proofs.stay.Places.{some-go, none-goes}
 
 module _ {m : ℕ} {ws : List ℕ} {run : Run} {states : Bytes} {area : List ℕ} {held : Held}
     (holds : Holds m ws run states area held) (few : held .state .types ≤ 128) where

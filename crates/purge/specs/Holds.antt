@@ -14,8 +14,8 @@ use Rattle.rules.specs.Call.{padded}
 use Rattle.types.specs.State.{laid, kindsOf, rowIn, nodesIn}
 use Rattle.distances.specs.Area.{Measures}
 use Rattle.links.specs.Marks.{Tells}
-use Rattle.state.specs.State.{epsilonOf}
-use Rattle.state.specs.declared.Held.{Held}
+use Rattle.purge.specs.State.{epsilonOf}
+use Rattle.purge.specs.declared.state.Held.{Held}
 
 pub record Holds (m : ℕ) (ws : List ℕ) (run : Run) (states : Bytes) (area : List ℕ) (held : Held) : Type 0 where
   pub narrow : m ≤ 64

@@ -10,7 +10,7 @@ use Rattle.rules.specs.declared.Link.{Link}
 use Rattle.types.specs.State.{nodesIn}
 use Rattle.distances.specs.Area.{cellAt}
 use Rattle.links.specs.Marks.{marked}
-use Rattle.state.specs.declared.Held.{Held}
+use Rattle.purge.specs.declared.state.Held.{Held}
 
 -- The links of n types: those marked, with the distances in the area.
 unfoldable pub linksIn : ℕ → List ℕ → List Link

@@ -5,12 +5,12 @@ use Prim.Native.Nat.{ℕ}
 use Rattle.rules.specs.Job.{Bytes}
 use Rattle.memory.specs.Placed.{placed}
 use Rattle.distances.specs.Area.{Written}
-use Rattle.retire.specs.Left.{Among, squeezed, KindsLeft, parted}
+use Rattle.purge.specs.Left.{Among, squeezed, KindsLeft, parted}
 use Rattle.links.specs.Marks.{LinksFound}
-use Rattle.state.specs.State.{epsilonOf, keeping}
-use Rattle.state.specs.declared.Held.{Held}
-use Rattle.stay.specs.Stay.{staying, Stays}
-use Rattle.stay.specs.declared.Stay.{Stay}
+use Rattle.purge.specs.State.{epsilonOf, keeping}
+use Rattle.purge.specs.declared.state.Held.{Held}
+use Rattle.purge.specs.Stay.{staying, Stays}
+use Rattle.purge.specs.declared.stay.Stay.{Stay}
 
 -- One time: rows, distances, kinds and state when those at the places of `stay` stay and the others go.
 pub record Once (states : Bytes) (area : List ℕ) (held : Held) (stay : Stay) (states′ : Bytes) (area′ : List ℕ) (held′ : Held) : Type 0 where

@@ -1,19 +1,23 @@
 // The room of the purge: obsolete types go together, links are found afresh, until none is obsolete. A type that goes is retired:
 // its row moves behind the rows of all types made and stays known. It writes the state area and the distance area.
 
+pub mod retire;
+pub mod state;
+pub mod stay;
+
 ghost use Prim.Native.Nat.{_≤_};
 ghost use lib.ListN.{length};
-ghost use Rattle.retire.specs.Left.{Chosen};
-ghost use Rattle.state.specs.State.{epsilonOf};
+ghost use Rattle.purge.specs.Left.{Chosen};
+ghost use Rattle.purge.specs.State.{epsilonOf};
 ghost use Rattle.purge.specs.Once.{Once, Surveyed};
 ghost use Rattle.purge.specs.Holds.{Purged};
+use crate::retire::distances_left;
+use crate::retire::kinds_left;
+use crate::retire::rows_left;
+use crate::state::Held;
+use crate::stay::Stay;
+use crate::stay::survivors;
 use links::find_links;
-use retire::distances_left;
-use retire::kinds_left;
-use retire::rows_left;
-use state::Held;
-use stay::Stay;
-use stay::survivors;
 
 // The obsolete types go together; those at the places of `stay` stay.
 fn purge_once(states: &mut [u8], area: &mut [u16], held: Held, stay: Stay) -> Held

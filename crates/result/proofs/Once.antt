@@ -3,7 +3,7 @@ use mathlib.Core.Path.{_≡_, sym, _∙_}
 use mathlib.Core.List.{List}
 use Prim.Native.Nat.{ℕ}
 use Rattle.rules.specs.Job.{Bytes}
-use Rattle.state.specs.declared.Held.{Held}
+use Rattle.purge.specs.declared.state.Held.{Held}
 use Rattle.result.specs.Written.{Written}
 use Rattle.result.specs.declared.Front.{Front}
 

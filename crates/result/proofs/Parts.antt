@@ -21,12 +21,12 @@ use Rattle.memory.proofs.Follows.{follows-on}
 use Rattle.types.specs.State.{rowIn, nodesIn}
 use Rattle.distances.specs.Area.{cellAt}
 use Rattle.links.specs.Marks.{marked}
-use Rattle.state.specs.declared.Held.{Held}
-use Rattle.records.specs.Records.{kindAt, sampledOf, recordsOf, rowsFrom}
-use Rattle.records.proofs.Written.{length-records, length-rowsFrom}
+use Rattle.purge.specs.declared.state.Held.{Held}
+use Rattle.result.specs.Records.{kindAt, sampledOf, recordsOf, rowsFrom}
+use Rattle.result.proofs.records.Written.{length-records, length-rowsFrom}
 use Rattle.purge.specs.Network.{linksIn, networkIn}
-use Rattle.table.specs.Table.{tableBytes}
-use Rattle.table.proofs.Bytes.{length-tableBytes}
+use Rattle.result.specs.Table.{tableBytes}
+use Rattle.result.proofs.table.Bytes.{length-tableBytes}
 use Rattle.result.specs.Front.{front}
 use Rattle.result.specs.Written.{Written}
 

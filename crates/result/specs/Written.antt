@@ -6,8 +6,8 @@ use lib.ListN.{length}
 use Rattle.rules.specs.Job.{Bytes}
 use Rattle.rules.specs.Result.{block}
 use Rattle.memory.specs.Placed.{placed}
-use Rattle.state.specs.declared.Held.{Held}
-use Rattle.records.specs.Records.{Told}
+use Rattle.purge.specs.declared.state.Held.{Held}
+use Rattle.result.specs.Records.{Told}
 use Rattle.purge.specs.Network.{linksIn, networkIn}
 use Rattle.result.specs.Front.{front}
 use Rattle.result.specs.declared.Front.{Front}

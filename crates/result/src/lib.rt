@@ -2,19 +2,23 @@
 // written from the link table. It reads the state area, the distance area and what is held by value, and writes the front of the part that
 // it is lent, and nothing behind the rows.
 
+pub mod ordered;
+pub mod records;
+pub mod table;
+
 ghost use mathlib.Core.Path.{_≡_};
 ghost use Prim.Native.Nat.{_≤_};
 ghost use lib.ListN.{length};
 ghost use Rattle.rules.specs.Result.{words, header};
 ghost use Rattle.memory.specs.Placed.{placed};
 ghost use Rattle.result.specs.Written.{Ready, Written};
+use crate::ordered::count_links;
+use crate::records::put_records;
+use crate::records::put_rows;
+use crate::records::put_three;
+use crate::records::sampled;
 use memory::put_word;
-use ordered::count_links;
-use records::put_records;
-use records::put_rows;
-use records::put_three;
-use records::sampled;
-use state::Held;
+use purge::state::Held;
 
 // How many links are still to be written, and where.
 pub struct Front {

@@ -15,11 +15,11 @@ use Rattle.rules.specs.Call.{outcome, padded}
 use Rattle.rules.proofs.Job.{passed-is, length-weights, weight-within}
 use Rattle.rules.proofs.Ends.{phase-one}
 use Rattle.types.proofs.State.{length-kinds}
-use Rattle.state.specs.State.{epsilonOf}
-use Rattle.rounds.specs.Rounded.{Carries}
-use Rattle.start.specs.Begun.{First, Begun}
-use Rattle.start.specs.declared.Ended.{Ended}
-use Rattle.start.proofs.Beginning.{job-weighed, begun-small}
+use Rattle.purge.specs.State.{epsilonOf}
+use Rattle.round.specs.Rounded.{Carries}
+use Rattle.run.specs.Begun.{First, Begun}
+use Rattle.run.specs.declared.start.Ended.{Ended}
+use Rattle.run.proofs.start.Beginning.{job-weighed, begun-small}
 use Rattle.run.specs.Phases.{Safe, PhasesOver}
 use Rattle.run.specs.Ran.{Ran}
 use Rattle.run.proofs.Ending.{run-in, types-few}

@@ -22,7 +22,7 @@ use Rattle.distances.specs.Area.{cellAt, Measures}
 use Rattle.links.specs.Marks.{marked, Tells}
 use Rattle.purge.specs.Holds.{Holds}
 use Rattle.purge.specs.Network.{linksIn, networkIn}
-use Rattle.state.specs.declared.Held.{Held}
+use Rattle.purge.specs.declared.state.Held.{Held}
 use Rattle.purge.proofs.Back.{current-back}
 use Rattle.purge.proofs.Told.{rows-count}
 

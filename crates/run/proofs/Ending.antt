@@ -11,12 +11,12 @@ use Rattle.rules.specs.Run.{Outcome, settled, full}
 use Rattle.rules.specs.declared.Answer.the-variants.{Done, Room}
 use Rattle.rules.proofs.Keeps.{made-count}
 use Rattle.rules.proofs.Ends.{phase-same}
-use Rattle.state.specs.State.{secondPhase}
+use Rattle.purge.specs.State.{secondPhase}
 use Rattle.purge.specs.Holds.{Holds, Purged}
-use Rattle.state.specs.declared.Held.{Held}
-use Rattle.rounds.specs.declared.Turn.{Turn}
-use Rattle.start.specs.Begun.{refusedWith}
-use Rattle.start.specs.declared.Ended.{Ended}
+use Rattle.purge.specs.declared.state.Held.{Held}
+use Rattle.round.specs.declared.Turn.{Turn}
+use Rattle.run.specs.Begun.{refusedWith}
+use Rattle.run.specs.declared.start.Ended.{Ended}
 use Rattle.run.specs.Phases.{PhaseOneOver, Kept, PhasesOver}
 
 -- An outcome is one of two: a round that had no room, by its number, or a run.

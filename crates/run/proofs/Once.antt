@@ -14,7 +14,7 @@ use Rattle.rules.specs.Purge.{Run}
 use Rattle.rules.specs.Run.{Outcome, settled, full}
 use Rattle.rules.specs.Call.{outcome}
 use Rattle.purge.proofs.Back.{holds-one}
-use Rattle.start.specs.declared.Ended.{Ended}
+use Rattle.run.specs.declared.start.Ended.{Ended}
 use Rattle.run.specs.Phases.{Kept}
 use Rattle.run.specs.Ran.{Ran, runAnswer}
 use Rattle.run.proofs.Ending.{kept-few, types-few}

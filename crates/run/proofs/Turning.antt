@@ -11,11 +11,11 @@ use Rattle.rules.specs.Purge.{Run, purge}
 use Rattle.rules.specs.Run.{Outcome, full, PhaseOne, no-candidate, no-room, round}
 use Rattle.rules.proofs.Ends.{purges}
 use Rattle.links.specs.Marks.{Tells}
-use Rattle.state.specs.State.{epsilonOf}
+use Rattle.purge.specs.State.{epsilonOf}
 use Rattle.purge.specs.Holds.{Purged}
-use Rattle.state.specs.declared.Held.{Held}
-use Rattle.rounds.specs.Rounded.{Carries, Rounded}
-use Rattle.rounds.specs.declared.Turn.{Turn}
+use Rattle.purge.specs.declared.state.Held.{Held}
+use Rattle.round.specs.Rounded.{Carries, Rounded}
+use Rattle.round.specs.declared.Turn.{Turn}
 use Rattle.run.specs.Phases.{Safe, Turned, Settled, PhaseOneOver}
 
 abbrev pub epsilonIn : Held → ℕ

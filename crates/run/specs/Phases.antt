@@ -12,14 +12,14 @@ use Rattle.rules.specs.Run.{settled, full, PhaseOne}
 use Rattle.rules.specs.declared.Answer.the-variants.{Done, Room}
 use Rattle.distances.specs.Area.{Weighed}
 use Rattle.links.specs.Marks.{Tells}
-use Rattle.state.specs.State.{epsilonOf}
+use Rattle.purge.specs.State.{epsilonOf}
 use Rattle.purge.specs.Holds.{Holds}
-use Rattle.state.specs.declared.Held.{Held}
-use Rattle.state.specs.declared.Phase.the-variants.{Two}
-use Rattle.rounds.specs.Rounded.{Carries, Grows, Crowded}
-use Rattle.rounds.specs.declared.Turn.{Turn}
-use Rattle.start.specs.Begun.{refusedWith, Cleared}
-use Rattle.start.specs.declared.Ended.{Ended}
+use Rattle.purge.specs.declared.state.Held.{Held}
+use Rattle.purge.specs.declared.state.Phase.the-variants.{Two}
+use Rattle.round.specs.Rounded.{Carries, Grows, Crowded}
+use Rattle.round.specs.declared.Turn.{Turn}
+use Rattle.run.specs.Begun.{refusedWith, Cleared}
+use Rattle.run.specs.declared.start.Ended.{Ended}
 
 -- Nothing that the code does can go out of bounds.
 pub record Safe (weights : List ℕ) (states : Bytes) (area : List ℕ) (held : Held) : Type 0 where

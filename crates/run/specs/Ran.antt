@@ -13,8 +13,8 @@ use Rattle.rules.specs.Call.{outcome}
 use Rattle.rules.specs.declared.Answer.{Answer}
 use Rattle.rules.specs.declared.Answer.the-variants.{Types, Room}
 use Rattle.purge.specs.Network.{networkIn}
-use Rattle.start.specs.Begun.{refusedWith, Cleared}
-use Rattle.start.specs.declared.Ended.{Ended}
+use Rattle.run.specs.Begun.{refusedWith, Cleared}
+use Rattle.run.specs.declared.start.Ended.{Ended}
 use Rattle.run.specs.Phases.{Kept}
 
 -- TYPES, or ROOM with the round's number, or none of the two.

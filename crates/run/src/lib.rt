@@ -1,6 +1,8 @@
 // The room of the run: Phase I at epsilon until there is no candidate, then Phase II at epsilon 0. What is left in the state area, in
 // the distance area and in the state of the run is the network; after a refusal both areas are zero. The job is only read.
 
+pub mod start;
+
 ghost use mathlib.Core.Path.{_≡_};
 ghost use Prim.Native.Nat.{_≤_};
 ghost use lib.ListN.{length};
@@ -8,16 +10,16 @@ ghost use Rattle.rules.specs.Answers.{number};
 ghost use Rattle.rules.specs.Job.{checked};
 ghost use Rattle.run.specs.Phases.{Safe, Turned, PhaseOneOver, PhasesOver};
 ghost use Rattle.run.specs.Ran.{Ran};
+use crate::start::Ended;
+use crate::start::begin;
+use crate::start::refused;
 use job::header_of;
 use memory::clear_bytes;
 use memory::clear_words;
-use rounds::Turn;
-use rounds::round;
+use purge::state::Held;
+use round::Turn;
+use round::round;
 use rules::Answer;
-use start::Ended;
-use start::begin;
-use start::refused;
-use state::Held;
 
 // Links at epsilon, purge at epsilon, then a round.
 fn turn(states: &mut [u8], area: &mut [u16], weights: &[u16], held: Held) -> Turn

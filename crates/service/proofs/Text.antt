@@ -16,9 +16,9 @@ use Rattle.rules.specs.Call.{Verdict, refused, found, verdict, answer, padded, 
 use Rattle.rules.specs.Text.{printed}
 use Rattle.rules.specs.declared.Answer.{Answer}
 use Rattle.rules.specs.declared.Link.{Link}
-use Rattle.found.proofs.Found.{answered, found-is, verdict-numbered}
-use Rattle.found.proofs.Result.{few-links, read-result, header-matches, links-counted, links-reach}
-use Rattle.listing.specs.Lines.{legible}
+use Rattle.readback.proofs.Found.{answered, found-is, verdict-numbered}
+use Rattle.readback.proofs.Result.{few-links, read-result, header-matches, links-counted, links-reach}
+use Rattle.text.specs.Lines.{legible}
 use Rattle.text.specs.Printed.{printedUsed, textRoom, textOf, briefRoom, printedAs, printedBytes, TextLeft, briefAs, BriefLeft}
 use Rattle.text.specs.declared.Printed.{Printed}
 use Rattle.text.specs.declared.Printed.the-variants.{Done, Room}

@@ -1,6 +1,8 @@
 // The room of the whole service: a job is answered and its answer printed into memory that is lent. What the programs do, but for reading
 // and writing.
 
+pub mod fasta_service;
+
 ghost use Rattle.network.specs.Called.{Called};
 ghost use Rattle.service.specs.Served.{AnsweredJob, ServedText, TextOnly};
 use network::call;

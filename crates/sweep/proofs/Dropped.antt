@@ -16,8 +16,8 @@ use Rattle.medians.proofs.Stored.{cost-bound}
 use Rattle.triplets.specs.Triplet.{leastCost}
 use Rattle.triplets.specs.declared.Triplet.{Triplet}
 use Rattle.triplets.proofs.Order.{Between, least-cost-is}
-use Rattle.search.specs.Swept.{Gives}
-use Rattle.search.proofs.Considering.{gives-cost}
+use Rattle.medians.specs.Swept.{Gives}
+use Rattle.medians.proofs.search.Considering.{gives-cost}
 use Rattle.sweep.specs.Candidate.{Faithful}
 
 -- Three types that ascend, of those made.

@@ -8,7 +8,7 @@ use native.Mathlib.Omega.{arith}
 use lib.ListN.{length, getD, set, replicate, length-set, length-replicate}
 use lib.Seq.{getD-set-same, getD-set-other}
 use Rattle.rules.specs.Job.{Bytes}
-use Rattle.search.proofs.Sweeping.{Rows}
+use Rattle.medians.proofs.search.Sweeping.{Rows}
 use Rattle.sweep.specs.Candidate.{AtCentre}
 use Rattle.sweep.specs.Floors.{Floored, Floors}
 

@@ -13,11 +13,11 @@ use Rattle.links.specs.Marks.{marked}
 use Rattle.triplets.specs.Followers.{Follower, Followers}
 use Rattle.triplets.specs.Triplet.{inOrder}
 use Rattle.triplets.specs.declared.Triplet.{Triplet}
-use Rattle.words.specs.Words.{Cached}
-use Rattle.search.specs.declared.Search.{Search}
-use Rattle.search.specs.Search.{Inside}
-use Rattle.search.specs.Swept.{Gives, Swept}
-use Rattle.search.proofs.Sweeping.{Rows, swept-none, swept-more, swept-as, swept-at}
+use Rattle.triplets.specs.Words.{Cached}
+use Rattle.medians.specs.declared.search.Search.{Search}
+use Rattle.medians.specs.Search.{Inside}
+use Rattle.medians.specs.Swept.{Gives, Swept}
+use Rattle.medians.proofs.search.Sweeping.{Rows, swept-none, swept-more, swept-as, swept-at}
 use Rattle.sweep.specs.Candidate.{IsTriplet, Candidate, Faithful, WithFirst, AtCentre, Everywhere, Ready, Kept}
 use Rattle.sweep.specs.Floors.{Outlook, Floored, Floors}
 use Rattle.sweep.proofs.Dropped.{no-less}

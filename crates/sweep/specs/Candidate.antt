@@ -13,9 +13,9 @@ use Rattle.links.specs.Marks.{marked}
 use Rattle.triplets.specs.Followers.{Followers}
 use Rattle.triplets.specs.Triplet.{inOrder}
 use Rattle.triplets.specs.declared.Triplet.{Triplet}
-use Rattle.words.specs.Words.{Narrow, Cached}
-use Rattle.search.specs.Swept.{Gives}
-use Rattle.search.specs.declared.Search.{Search}
+use Rattle.triplets.specs.Words.{Narrow, Cached}
+use Rattle.medians.specs.Swept.{Gives}
+use Rattle.medians.specs.declared.search.Search.{Search}
 
 -- A triplet: three different types of n, ascending, of which at least two pairs are linked.
 pub record IsTriplet (area : List ℕ) (n : ℕ) (t : Triplet) : Type 0 where

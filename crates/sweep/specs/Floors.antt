@@ -7,7 +7,7 @@ use lib.ListN.{length, getD}
 use Rattle.rules.specs.Job.{Bytes}
 use Rattle.triplets.specs.Triplet.{leastCost}
 use Rattle.triplets.specs.declared.Triplet.{Triplet}
-use Rattle.settled.specs.Settled.{Settled}
+use Rattle.triplets.specs.Settled.{Settled}
 use Rattle.sweep.specs.Candidate.{AtCentre}
 
 -- A triplet's outlook: the cost that its distances leave; or more than any, where all its median vectors are rows made.

@@ -6,14 +6,14 @@ ghost use mathlib.Core.Bool.{true};
 ghost use Prim.Native.Nat.{_*_, _≤_, _<_, min};
 ghost use lib.ListN.{length};
 ghost use Rattle.links.specs.Marks.{marked};
-ghost use Rattle.search.specs.Swept.{Swept};
+ghost use Rattle.medians.specs.Swept.{Swept};
 ghost use Rattle.sweep.specs.Candidate.{Candidate, WithFirst, AtCentre, Everywhere, Worded, Ready, Kept};
 ghost use Rattle.sweep.specs.Floors.{Outlook, Floored, Floors};
-use search::Search;
+use medians::search::Search;
+use medians::visit::visit;
 use triplets::Triplet;
 use triplets::in_order;
 use triplets::least_cost;
-use visit::visit;
 
 // What is met: the search has come to this, and no candidate met costs less than the floor.
 struct Met {
@@ -48,7 +48,7 @@ fn outlook(
     if below <= least {
         return least;
     }
-    if settled::settled(states, words, hints, m, made, t) {
+    if triplets::settled::settled(states, words, hints, m, made, t) {
         return 200000;
     }
     least

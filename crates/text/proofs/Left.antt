@@ -14,11 +14,11 @@ use Rattle.rules.specs.Job.{Bytes}
 use Rattle.rules.specs.declared.Answer.{Answer}
 use Rattle.memory.specs.Placed.{Follows}
 use Rattle.memory.proofs.Placed.{placed-padded}
-use Rattle.listing.specs.Lines.{legible, networkOf}
+use Rattle.text.specs.Lines.{legible, networkOf}
 use Rattle.text.specs.Printed.{printedUsed, textRoom, textOf, refusalOf, briefRoom, printedWithin, printedAs, printedBytes, RefusalWithin, RefusalLeft, TextWithin, TextLeft, briefAs, BriefLeft}
 use Rattle.text.specs.declared.Printed.{Printed}
 use Rattle.text.specs.declared.Printed.the-variants.{Done, Room, Block}
-use Rattle.listing.proofs.Legible.{read-is}
+use Rattle.text.proofs.listing.Legible.{read-is}
 use Rattle.text.proofs.Network.{text-read}
 
 -- ── A refusal by itself ──

@@ -13,8 +13,8 @@ use Rattle.rules.specs.Result.{sampledIn}
 use Rattle.rules.specs.Text.{networkText, typeLine, linkLine}
 use Rattle.rules.specs.declared.Origin.the-variants.{Sampled}
 use Rattle.rules.proofs.Block.{sampledIn-append}
-use Rattle.found.specs.ReadBack.{readType, readLink, readBack}
-use Rattle.listing.specs.Lines.{headOf, typesOf, linksOf, networkOf}
+use Rattle.readback.specs.ReadBack.{readType, readLink, readBack}
+use Rattle.text.specs.Lines.{headOf, typesOf, linksOf, networkOf}
 
 -- As many types are read back as sampled as the header says.
 sampled-read : (job block : Bytes) → word block 2 ≤ word block 0 → sampledIn (table (word block 0) (readType job block)) ≡ word block 2

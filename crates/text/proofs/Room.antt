@@ -17,11 +17,11 @@ use Rattle.rules.specs.Lookup.{Part, inJob, inResult, nowhere, partOf, statesOf
 use Rattle.rules.specs.Text.{text, originText, typeLine, linkLine}
 use Rattle.rules.specs.declared.Answer.{Answer}
 use Rattle.rules.specs.declared.Origin.the-variants.{Sampled, Inferred}
-use Rattle.lines.proofs.Decimal.{length-decimal}
-use Rattle.found.specs.ReadBack.{recordAt, readLink}
-use Rattle.listing.specs.Lines.{Legible, headOf, typeOf, typesOf, linksOf, networkOf}
+use Rattle.memory.proofs.lines.Decimal.{length-decimal}
+use Rattle.readback.specs.ReadBack.{recordAt, readLink}
+use Rattle.text.specs.Lines.{Legible, headOf, typeOf, typesOf, linksOf, networkOf}
 use Rattle.text.specs.Printed.{textRoom, refusalOf, lineRoom, networkRoom, briefRoom, Suffices}
-use Rattle.listing.proofs.Legible.{Read, read-is}
+use Rattle.text.proofs.listing.Legible.{Read, read-is}
 
 -- The row lookup hands back at most a row's states.
 states-most : (job block : Bytes) (k : ℕ) → length (lookup job block k) ≤ width job

@@ -10,8 +10,8 @@ use Rattle.rules.specs.Job.{Bytes, word}
 use Rattle.rules.specs.Call.{refused, padded}
 use Rattle.rules.specs.Text.{text, say, networkText, verdictText}
 use Rattle.rules.specs.declared.Answer.{Answer}
-use Rattle.found.specs.ReadBack.{readBack}
-use Rattle.listing.specs.Lines.{legible, Legible}
+use Rattle.readback.specs.ReadBack.{readBack}
+use Rattle.text.specs.Lines.{legible, Legible}
 use Rattle.answers.specs.Told.{Tells}
 use Rattle.answers.specs.declared.Told.{Told}
 use Rattle.text.specs.declared.Printed.{Printed}

@@ -1,22 +1,24 @@
 // The room of the printed text: the lines of a network or of a refusal, built from a job, its result block and its answer into memory
 // that is lent. Job and block are only read.
 
+pub mod listing;
+
 ghost use mathlib.Core.Path.{_≡_};
 ghost use Prim.Native.Nat.{_≤_};
 ghost use lib.Dec.{leb};
 ghost use lib.ListN.{length, replicate};
 ghost use Rattle.memory.specs.Placed.{Follows};
-ghost use Rattle.listing.specs.Lines.{Legible, legible, networkOf};
+ghost use Rattle.text.specs.Lines.{Legible, legible, networkOf};
 ghost use Rattle.text.specs.Printed.{ToldText, refusalOf, lineRoom, networkRoom, briefRoom, Suffices, RefusalWithin, RefusalLeft, TextWithin, TextLeft, BriefLeft};
+use crate::listing::put_head;
+use crate::listing::put_links;
+use crate::listing::put_types;
 use answers::Told;
 use answers::tell;
-use lines::put;
-use lines::say;
-use listing::put_head;
-use listing::put_links;
-use listing::put_types;
-use matching::block_matches;
+use lookup::matching::block_matches;
 use memory::clear_bytes;
+use memory::lines::put;
+use memory::lines::say;
 use memory::word_at;
 use rules::Answer;
 

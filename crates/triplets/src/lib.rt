@@ -1,6 +1,10 @@
 // The room of triplets: who is linked with a type, one after the other, and which triplets can have a candidate. It reads the
 // distance area.
 
+pub mod hints;
+pub mod settled;
+pub mod words;
+
 ghost use mathlib.Core.Path.{_≡_};
 ghost use Prim.Native.Nat.{_+_, _≤_, _<_};
 ghost use lib.ListN.{length};

@@ -1,6 +1,8 @@
 // The room of types: how they lie in memory. A type's states lie in the lent state area, 64 bytes to a type, and its origin in an array
 // of kinds. It only reads the state area.
 
+pub mod sample;
+
 ghost use mathlib.Core.Path.{_≡_};
 ghost use Prim.Native.Nat.{_+_, _*_, _≤_};
 ghost use lib.ListN.{length, replicate};

@@ -5,7 +5,7 @@ use native.Mathlib.Omega.{arith}
 use borrow.Author.Needs.{needs}
 use borrow.Author.Tests.{not-true, not-false}
 use Rattle.memory.proofs.Follows.{follows-none}
-use Rattle.fasta_lines.specs.Lines.{isState}
+use Rattle.fasta.specs.Lines.{isState}
 use Rattle.fasta.proofs.Written.{stored}
 use Rattle.fasta.proofs.put_state.Statement.{statement}
 use Rattle.fasta.proofs.put_state.Tie as tie

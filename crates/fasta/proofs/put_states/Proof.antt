@@ -4,8 +4,8 @@ use Prim.Native.Nat.{_-_, _≤_}
 use native.Mathlib.Omega.{arith}
 use lib.ListN.{length}
 use Rattle.graph.specs.Below.{gather}
-use Rattle.fasta_lines.specs.Lines.{lineStart}
-use Rattle.alignment.specs.Sequences.{states}
+use Rattle.fasta.specs.Lines.{lineStart}
+use Rattle.fasta.specs.Sequences.{states}
 use Rattle.memory.specs.Placed.{Follows}
 use Rattle.memory.proofs.Follows.{follows-none, follows-more, follows-room}
 use Rattle.fasta.proofs.Written.{stateAt}

@@ -3,7 +3,7 @@ use Prim.Native.Nat.{_*_, _≤_}
 use native.Mathlib.Nat.{mul-le-mul}
 use native.Mathlib.Omega.{arith}
 use borrow.Author.Needs.{needs}
-use Rattle.matching.proofs.Match.{Matched, matched-is}
+use Rattle.lookup.proofs.matching.Match.{Matched, matched-is}
 use Rattle.lookup.proofs.Rows.{past, sampled-out, sampled-row, inferred-out, inferred-row}
 use Rattle.lookup.proofs.place_in.Statement.{statement}
 use Rattle.lookup.proofs.place_in.Tie as tie

@@ -6,9 +6,9 @@ use Rattle.rules.specs.Answers.{number}
 use Rattle.rules.specs.Job.{checked}
 use Rattle.rules.specs.declared.Answer.{Answer}
 use Rattle.answers.specs.Told.{firstOf}
-use Rattle.found.proofs.Lent.{enough}
-use Rattle.areas.specs.Areas.{lengths, areasAnswer}
-use Rattle.draw.proofs.Verdicts.{first-passed}
+use Rattle.readback.proofs.Lent.{enough}
+use Rattle.job.specs.Areas.{lengths, areasAnswer}
+use Rattle.network.proofs.draw.Verdicts.{first-passed}
 use Rattle.network.proofs.Steps.{answered-first, answered-drawn}
 use Rattle.network.proofs.answer_job.Statement.{statement}
 use Rattle.network.proofs.answer_job.Tie as tie

@@ -1,7 +1,7 @@
 -- `purge::purge_once` meets its contract: rows, distances and kinds are what is left of them.
 use native.Mathlib.Omega.{arith}
 use borrow.Author.Needs.{needs}
-use Rattle.stay.proofs.Places.{chosen-more}
+use Rattle.purge.proofs.stay.Places.{chosen-more}
 use Rattle.purge.proofs.purge_once.Statement.{statement}
 use Rattle.purge.proofs.purge_once.Tie as tie
 

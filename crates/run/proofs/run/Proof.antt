@@ -6,7 +6,7 @@ use borrow.Author.Needs.{needs}
 use Rattle.rules.specs.Job.{jobRows}
 use Rattle.rules.specs.Types.{tooMany}
 use Rattle.rules.proofs.Job.{passed-is}
-use Rattle.start.proofs.Beginning.{many-told, few-told}
+use Rattle.run.proofs.start.Beginning.{many-told, few-told}
 use Rattle.run.proofs.Beginning.{ran-types, ran-phases, safe-first}
 use Rattle.run.proofs.run.Statement.{statement}
 use Rattle.run.proofs.run.Tie as tie

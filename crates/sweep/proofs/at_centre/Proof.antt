@@ -4,7 +4,7 @@ use Prim.Native.Nat.{_+_, _*_, _-_, _<_}
 use native.Mathlib.Omega.{arith}
 use lib.ListN.{getD}
 use Rattle.triplets.specs.Followers.{Follower}
-use Rattle.search.specs.Swept.{Swept}
+use Rattle.medians.specs.Swept.{Swept}
 use Rattle.sweep.specs.Candidate.{Candidate, AtCentre, Kept}
 use Rattle.sweep.specs.Floors.{Floored}
 use Rattle.sweep.proofs.Walk.{Walk, walk-first, walk-next, follower-first, follower-next, kept-then, kept-none, still-ready, centre-none, centre-open, centre-more, centre-lowered}

@@ -3,7 +3,7 @@ use mathlib.Core.Path.{_≡_, sym, _∙_}
 use mathlib.Core.Logic.{⊎-elim}
 use Prim.Native.Nat.{_-_, _≤_, _<_}
 use native.Mathlib.Omega.{arith}
-use Rattle.search.specs.Swept.{Swept}
+use Rattle.medians.specs.Swept.{Swept}
 use Rattle.sweep.specs.Candidate.{Candidate, Everywhere, Kept}
 use Rattle.sweep.specs.Floors.{Floors}
 use Rattle.sweep.proofs.Floors.{floors-one}

@@ -5,8 +5,8 @@ use Prim.Native.Nat.{_≤_}
 use native.Mathlib.Omega.{arith}
 use lib.ListN.{length}
 use borrow.Author.Tests.{not-true, not-false, le-leb, lt-leb}
-use Rattle.matching.specs.Match.{matches}
-use Rattle.matching.proofs.Match.{matched-is}
+use Rattle.lookup.specs.Match.{matches}
+use Rattle.lookup.proofs.matching.Match.{matched-is}
 use Rattle.text.proofs.is_legible.Statement.{statement}
 use Rattle.text.proofs.is_legible.Tie as tie
 

@@ -7,9 +7,9 @@ use lib.Dec.{lit<}
 use lib.ListN.{getD}
 use Rattle.graph.specs.Below.{gather}
 use Rattle.rules.specs.Job.{Bytes}
-use Rattle.lines.proofs.Upto.{Upto, upto-none, upto-length, upto-room, upto-more}
-use Rattle.listing.specs.Lines.{headOf, typesOf, linksOf}
-use Rattle.listing.proofs.Legible.{Read, read-is}
+use Rattle.memory.proofs.lines.Upto.{Upto, upto-none, upto-length, upto-room, upto-more}
+use Rattle.text.specs.Lines.{headOf, typesOf, linksOf}
+use Rattle.text.proofs.listing.Legible.{Read, read-is}
 use Rattle.text.proofs.Room.{network-most}
 use Rattle.text.proofs.put_network.Statement.{statement}
 use Rattle.text.proofs.put_network.Tie as tie

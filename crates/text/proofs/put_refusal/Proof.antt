@@ -8,7 +8,7 @@ use lib.ListN.{getD}
 use Rattle.graph.specs.Below.{gather}
 use Rattle.rules.specs.Job.{Bytes}
 use Rattle.rules.specs.Text.{text, say}
-use Rattle.lines.proofs.Upto.{Upto, upto-none, upto-length, upto-room, upto-more}
+use Rattle.memory.proofs.lines.Upto.{Upto, upto-none, upto-length, upto-room, upto-more}
 use Rattle.text.proofs.Room.{refusal-most}
 use Rattle.text.proofs.put_refusal.Statement.{statement}
 use Rattle.text.proofs.put_refusal.Tie as tie

@@ -1,3 +1,0 @@
-pub mod Sequences
-pub mod Refusals
-pub mod Read

@@ -1,2 +1,0 @@
-pub mod Drawing
-pub mod Refusals

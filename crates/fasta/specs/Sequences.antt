@@ -1,0 +1,31 @@
+-- The sequences of a FASTA text.
+use mathlib.Core.Bool.{Bool, _&&_}
+use Prim.Native.Nat.{ℕ, suc}
+use lib.Dec.{eqb}
+use lib.ListN.{length}
+use Rattle.graph.specs.Below.{gather, only, count}
+use Rattle.rules.specs.Job.{Bytes, Row}
+use Rattle.fasta.specs.Lines.{byteAt, opens, isState}
+
+-- How many sequences are opened before a byte.
+abbrev pub opened : Bytes → ℕ → ℕ
+opened text i = count i (opens text)
+
+-- A state belongs to the sequence that was opened last; they are numbered from 0.
+abbrev pub inSequence : Bytes → ℕ → ℕ → Bool
+inSequence text k i = isState text i && eqb (opened text i) (suc k)
+
+-- The lines up to the next `>` are joined: the states of sequence k that stand before byte i, one behind the other.
+unfoldable pub joined : Bytes → ℕ → ℕ → Row
+joined text i k = gather i (λ j. only (inSequence text k j) (byteAt text j))
+
+-- Of the whole text: how many sequences there are, and each of them.
+abbrev pub sequences : Bytes → ℕ
+sequences text = opened text (length text)
+
+abbrev pub sequence : Bytes → ℕ → Row
+sequence text k = joined text (length text) k
+
+-- All states of the text, one behind the other.
+unfoldable pub states : Bytes → Row
+states text = gather (length text) (λ i. only (isState text i) (byteAt text i))

@@ -1,0 +1,48 @@
+// The room of the checks: the refusals 2 to 7, in the order they are tried. The job is only read.
+
+ghost use mathlib.Core.Path.{_≡_};
+ghost use Rattle.rules.specs.Job.{checked};
+ghost use Rattle.job.specs.Stages.{Sized};
+use crate::contents::check_contents;
+use crate::contents::outside;
+use memory::word_at;
+use rules::Answer;
+
+// LAYOUT, and what is tried behind it.
+fn check_layout(job: &[u8], n: usize, m: usize) -> Answer
+    requires { ⌜ Sized (now job) n m ⌝ }
+    ensures { λ r. ⌜ r ≡ checked (now (job .entry)) ⌝ }
+{
+    if word_at(job, 6) != 12 {
+        return Answer::Layout { place: 6 };
+    }
+    if word_at(job, 8) != 12 + 2 * m {
+        return Answer::Layout { place: 8 };
+    }
+    let whole = 12 + 2 * m + n * m;
+    if word_at(job, 10) != whole {
+        return Answer::Layout { place: 10 };
+    }
+    if job.len() != whole {
+        return Answer::Layout { place: 12 };
+    }
+    check_contents(job, n, m)
+}
+
+// The refusals 2 to 7 in the order they are tried: HEAD, ROWS and WIDTH here.
+pub fn check(job: &[u8]) -> Answer
+    ensures { λ r. ⌜ r ≡ checked (now (job .entry)) ⌝ }
+{
+    if job.len() < 12 {
+        return Answer::Head;
+    }
+    let n = word_at(job, 0);
+    if outside(1, 256, n) {
+        return Answer::Rows;
+    }
+    let m = word_at(job, 2);
+    if outside(1, 64, m) {
+        return Answer::Width;
+    }
+    check_layout(job, n, m)
+}

@@ -1,0 +1,10 @@
+-- `state::State::keeping` meets its contract: of the state, only the number of types changes.
+use mathlib.Core.Path.{refl}
+use Rattle.purge.proofs.state.State.keeping.Statement.{statement}
+use Rattle.purge.proofs.state.State.keeping.Tie as tie
+
+returns : tie.Need-returns
+returns c = refl
+
+pub keeping-spec : {M : Type 1} → statement M
+keeping-spec = tie.close (tie.spec returns)

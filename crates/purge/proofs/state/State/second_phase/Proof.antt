@@ -1,0 +1,10 @@
+-- `state::State::second_phase` meets its contract: of the state, only the phase changes.
+use mathlib.Core.Path.{refl}
+use Rattle.purge.proofs.state.State.second_phase.Statement.{statement}
+use Rattle.purge.proofs.state.State.second_phase.Tie as tie
+
+returns : tie.Need-returns
+returns c = refl
+
+pub second-phase-spec : {M : Type 1} → statement M
+second-phase-spec = tie.close (tie.spec returns)

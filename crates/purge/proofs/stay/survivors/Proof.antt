@@ -1,0 +1,72 @@
+-- `stay::survivors` meets its contract: after i types it holds the places of those that stay.
+use mathlib.Core.Path.{refl}
+use mathlib.Core.Logic.{⊎-elim}
+use Prim.Native.Nat.{_-_}
+use native.Mathlib.Omega.{arith}
+use Rattle.purge.proofs.stay.Staying.{Passed, passed-as, passed-none, count-few, passed-goes, passed-stays, all-passed}
+use Rattle.purge.proofs.stay.survivors.Statement.{statement}
+use Rattle.purge.proofs.stay.survivors.Tie as tie
+
+abbrev Inv-loop : tie.InvT-loop
+Inv-loop area t kinds kept₀ count₀ i₀ kept count i = Passed area kinds t kept count i
+
+abbrev μ-loop : tie.MeasureT-loop
+μ-loop area t kinds kept₀ count₀ i₀ kept count i = t - i
+
+loop-holds : tie.Need-loop-holds Inv-loop μ-loop
+loop-holds c = passed-none (omega arith) refl
+
+mul-kind : tie.Need-mul-kind Inv-loop μ-loop
+mul-kind c = omega arith
+
+array-copy-out-kind : tie.Need-array-copy-out-kind Inv-loop μ-loop
+array-copy-out-kind c = omega arith
+
+obsolete-requires : tie.Need-obsolete-requires Inv-loop μ-loop
+obsolete-requires c κs = omega arith
+
+mul-kept : tie.Need-mul-kept Inv-loop μ-loop
+mul-kept c = omega (arith, count-few (c .before .before .before .before .loop .inv))
+
+array-write-kept : tie.Need-array-write-kept Inv-loop μ-loop
+array-write-kept c = omega (arith, count-few (c .before .before .before .before .loop .inv))
+
+add-count : tie.Need-add-count Inv-loop μ-loop
+add-count c = omega (arith, count-few (c .before .before .before .before .loop .inv))
+
+add-i : tie.Need-add-i Inv-loop μ-loop
+add-i c = omega arith
+
+loop-less : tie.Need-loop-less Inv-loop μ-loop
+loop-less c = omega arith
+
+loop-again : tie.Need-loop-again Inv-loop μ-loop
+loop-again c =
+    let f = c .before in
+    let l = f .before .before .before .loop in
+    let h = f .before .before .loop-test .taken in
+    ⊎-elim
+    (λ w. passed-as (passed-stays (l .inv) h (f .obsolete .ensures) (w .0 .taken)) (w .1) (w .2))
+    (λ w. passed-as (passed-goes (l .inv) h (f .obsolete .ensures) (w .0 .left)) (w .1) (w .2))
+    (c .if1 .came)
+
+returns : tie.Need-returns Inv-loop μ-loop
+returns c = all-passed (c .before .loop .inv) (omega arith)
+
+pub survivors-spec : {M : Type 1} → statement M
+survivors-spec =
+    tie.close
+    (tie.spec
+    Inv-loop
+    μ-loop
+    loop-holds
+    mul-kind
+    array-copy-out-kind
+    obsolete-requires
+    mul-kept
+    array-write-kept
+    add-count
+    add-i
+    loop-less
+    loop-again
+    returns)

@@ -1,0 +1,60 @@
+-- The rows that a round adds.
+use mathlib.Core.Path.{_≡_}
+use mathlib.Core.Logic.{_↔_}
+use mathlib.Core.Bool.{true, false}
+use mathlib.Core.List.{List}
+use Prim.Native.Nat.{ℕ, _+_, _*_, _≤_, _<_}
+use lib.ListN.{length, replicate}
+use Rattle.graph.proofs.Below.{In}
+use Rattle.rules.specs.Job.{Bytes}
+use Rattle.rules.specs.Call.{padded}
+use Rattle.rules.proofs.Rounds.{AscendingRows}
+use Rattle.types.specs.State.{laid}
+use Rattle.distances.specs.Area.{Weighed}
+use Rattle.triplets.specs.Followers.{Followers}
+use Rattle.sweep.specs.Candidate.{Candidate, Faithful}
+use Rattle.round.specs.declared.candidates.Added.{Added}
+
+-- So many rows; and no row, because there is no room.
+abbrev pub withRows : Bytes → ℕ → Added
+withRows rows count = record { rows = rows; count = count; full = false }
+
+abbrev pub NoneFits : Added → Type 0
+NoneFits r = (r .rows ≡ replicate 8192 0) × (r .count ≡ 0) × (r .full ≡ true)
+
+-- What it takes to choose a round's rows: n types are current, and who is linked with them is known.
+pub record Choosing (states : Bytes) (area ws next : List ℕ) (n made e : ℕ) : Type 0 where
+  pub weighed : Weighed ws
+  pub follows : Followers area n next
+  pub current : n ≤ made
+  pub few : made ≤ 128
+  pub small : e ≤ 65535
+  pub lie : 64 * made ≤ length states
+  pub cells : 16384 ≤ length area
+
+-- A candidate that the round adds: one of its costs is at most the cost of any candidate and epsilon.
+pub record InWindow (ws : List ℕ) (states : Bytes) (area : List ℕ) (n made e : ℕ) (x : Bytes) : Type 0 where
+  pub cost : ℕ
+  pub candidate : Candidate ws states area n made x cost
+  pub cheap : (y : Bytes) (other : ℕ) → Candidate ws states area n made y other → cost ≤ other + e
+
+-- The rows added are all those, ascending; or there are more of them than there is room for, and none is handed back.
+pub record All (ws : List ℕ) (states : Bytes) (area : List ℕ) (n made e : ℕ) (r : Added) : Type 0 where
+  pub xs : List Bytes
+  pub ascends : AscendingRows xs
+  pub exact : (x : Bytes) → In x xs ↔ InWindow ws states area n made e x
+  pub count-is : r .count ≡ length xs
+  pub rows-are : r .rows ≡ padded 8192 (laid xs)
+
+pub record TooMany (ws : List ℕ) (states : Bytes) (area : List ℕ) (n made e : ℕ) : Type 0 where
+  pub xs : List Bytes
+  pub ascends : AscendingRows xs
+  pub each : (x : Bytes) → In x xs → InWindow ws states area n made e x
+  pub no-room : 128 < made + length xs
+
+pub record Fresh (ws : List ℕ) (states : Bytes) (area : List ℕ) (n made e : ℕ) (r : Added) : Type 0 where
+  pub size : length (r .rows) ≡ 8192
+  pub room : made + r .count ≤ 128
+  pub all : Faithful ws states area n → r .full ≡ false → All ws states area n made e r
+  pub too-many : Faithful ws states area n → r .full ≡ true → TooMany ws states area n made e
+  pub none-then : r .full ≡ true → (r .count ≡ 0) × (r .rows ≡ replicate 8192 0)

@@ -1,0 +1,4 @@
+pub mod Grown
+pub mod Rounded
+pub mod Sorted
+pub mod Fresh

@@ -1,0 +1,105 @@
+// The room of fresh rows: the memory in which a round's rows are chosen. Who is linked with whom is found once; and where types have many
+// links, words and hints of the rows made are worth their making. It reads the state area and the distance area.
+
+ghost use Prim.Native.Nat.{_*_, _≤_};
+ghost use lib.ListN.{length};
+ghost use Rattle.distances.specs.Area.{Weighed};
+ghost use Rattle.round.specs.Fresh.{Choosing, Fresh};
+use crate::candidates::Added;
+use crate::candidates::choose;
+use links::link_count;
+use triplets::followers;
+
+// The rows that a round adds, with memory for words and hints of the rows made.
+fn choose_with_words(
+    states: &[u8],
+    area: &[u16],
+    weights: &[u16],
+    next: &[u16],
+    n: usize,
+    made: usize,
+    epsilon: usize,
+) -> Added
+    requires { ⌜ Choosing (now states) (now area) (now weights) (now next) n made epsilon ⌝ }
+    ensures { λ r. ⌜ Fresh (now (weights .entry)) (now (states .entry)) (now (area .entry)) n made epsilon r ⌝ }
+{
+    let mut words = [triplets::words::NONE; 16384];
+    let mut hints = [1u64; 4608];
+    let m = triplets::words::width(states, made);
+    triplets::hints::hints(states, &mut hints, m, made);
+    choose(
+        states,
+        area,
+        weights,
+        next,
+        &mut words,
+        &hints,
+        m,
+        n,
+        made,
+        epsilon,
+    )
+}
+
+// The same, with no memory for them: every triplet that can matter is visited.
+fn choose_without_words(
+    states: &[u8],
+    area: &[u16],
+    weights: &[u16],
+    next: &[u16],
+    n: usize,
+    made: usize,
+    epsilon: usize,
+) -> Added
+    requires { ⌜ Choosing (now states) (now area) (now weights) (now next) n made epsilon ⌝ }
+    ensures { λ r. ⌜ Fresh (now (weights .entry)) (now (states .entry)) (now (area .entry)) n made epsilon r ⌝ }
+{
+    let mut words = [triplets::words::NONE; 1];
+    let hints = [1u64; 1];
+    choose(
+        states,
+        area,
+        weights,
+        next,
+        &mut words,
+        &hints,
+        64,
+        n,
+        made,
+        epsilon,
+    )
+}
+
+// Whether the types have some four links each, so that words of rows are worth their making: either answer is right. Of one type in four
+// the links with the types below it are counted.
+fn many_links(area: &[u16], n: usize) -> bool
+    requires { ⌜ (n ≤ 128) × (16384 ≤ length (now area)) ⌝ }
+{
+    let mut links = 0usize;
+    let mut i = 0;
+    while i < n {
+        links += link_count(area, i, i);
+        i += 4;
+    }
+    n <= 2 * links
+}
+
+// The rows that a round adds, where n types are current.
+pub fn fresh(
+    states: &[u8],
+    area: &[u16],
+    weights: &[u16],
+    n: usize,
+    made: usize,
+    epsilon: usize,
+) -> Added
+    requires { ⌜ Weighed (now weights) × (n ≤ made) × (made ≤ 128) × (epsilon ≤ 65535) × (64 * made ≤ length (now states)) × (16384 ≤ length (now area)) ⌝ }
+    ensures { λ r. ⌜ Fresh (now (weights .entry)) (now (states .entry)) (now (area .entry)) n made epsilon r ⌝ }
+{
+    let mut next = [256u16; 16512];
+    followers(area, &mut next, n);
+    if 16 <= n && many_links(area, n) {
+        return choose_with_words(states, area, weights, &next, n, made, epsilon);
+    }
+    choose_without_words(states, area, weights, &next, n, made, epsilon)
+}

@@ -1,0 +1,84 @@
+// The room of a network's lines: its own, one for each type, one for each link, as a result block gives them. Job and block are only
+// read; the lines go behind what is written.
+
+ghost use Prim.Native.Nat.{_+_, _*_, _≤_, _<_};
+ghost use lib.ListN.{length};
+ghost use Rattle.rules.specs.Job.{word};
+ghost use Rattle.rules.specs.Lookup.{typesIn};
+ghost use Rattle.memory.specs.Placed.{Follows};
+ghost use Rattle.text.specs.Lines.{Legible, headOf, typeOf, typesOf, linkOf, linksOf};
+use lookup::states_in;
+use memory::lines::put;
+use memory::lines::say;
+use memory::word_at;
+
+// The line of the network: types, sampled, links, rounds. What is handed back, here and below, is the place behind it.
+pub fn put_head(block: &[u8], out: &mut [u8], at: usize) -> usize
+    requires { ⌜ (16 ≤ length (now block)) × (at + length (headOf (now block)) ≤ length (now out)) ⌝ }
+    ensures { λ r. ⌜ Follows (now (out .entry)) at (headOf (now (block .entry))) (now (out .exit)) r ⌝ }
+{
+    let at = say(out, at, b"types ", word_at(block, 0));
+    let at = say(out, at, b" sampled ", word_at(block, 2));
+    let at = say(out, at, b" links ", word_at(block, 6));
+    let at = say(out, at, b" rounds ", word_at(block, 8));
+    put(out, at, b"\n")
+}
+
+// The line of a type: number, S with row count or I with round, states. Job and block have one lifetime here and below, since the states
+// are a part of either.
+fn put_type<'a>(job: &'a [u8], block: &'a [u8], k: usize, out: &mut [u8], at: usize) -> usize
+    requires { ⌜ Legible (now job) (now block) × (k < typesIn (now block)) × (at + length (typeOf (now job) (now block) k) ≤ length (now out)) ⌝ }
+    ensures { λ r. ⌜ Follows (now (out .entry)) at (typeOf (now (job .entry)) (now (block .entry)) k) (now (out .exit)) r ⌝ }
+{
+    let from = 16 + 6 * k;
+    let mut at = say(out, at, b"T ", k);
+    if k < word_at(block, 2) {
+        at = say(out, at, b" S ", word_at(block, from));
+    } else {
+        at = say(out, at, b" I ", word_at(block, from + 4));
+    }
+    at = put(out, at, b" ");
+    at = put(out, at, states_in(job, block, k));
+    put(out, at, b"\n")
+}
+
+pub fn put_types<'a>(job: &'a [u8], block: &'a [u8], out: &mut [u8], at: usize) -> usize
+    requires { ⌜ Legible (now job) (now block) × (at + length (typesOf (now job) (now block)) ≤ length (now out)) ⌝ }
+    ensures { λ r. ⌜ Follows (now (out .entry)) at (typesOf (now (job .entry)) (now (block .entry))) (now (out .exit)) r ⌝ }
+{
+    let t = word_at(block, 0);
+    let mut at = at;
+    let mut k = 0;
+    while k < t {
+        at = put_type(job, block, k, out, at);
+        k += 1;
+    }
+    at
+}
+
+// The line of a link: lower, higher, length.
+fn put_link(block: &[u8], from: usize, out: &mut [u8], at: usize) -> usize
+    requires { ⌜ (from + 6 ≤ length (now block)) × (at + length (linkOf (now block) from) ≤ length (now out)) ⌝ }
+    ensures { λ r. ⌜ Follows (now (out .entry)) at (linkOf (now (block .entry)) from) (now (out .exit)) r ⌝ }
+{
+    let at = say(out, at, b"L ", word_at(block, from));
+    let at = say(out, at, b" ", word_at(block, from + 2));
+    let at = say(out, at, b" ", word_at(block, from + 4));
+    put(out, at, b"\n")
+}
+
+pub fn put_links(block: &[u8], out: &mut [u8], at: usize) -> usize
+    requires { ⌜ (16 ≤ length (now block)) × (word (now block) 14 + 6 * word (now block) 6 ≤ length (now block)) ⌝ }
+    requires { ⌜ at + length (linksOf (now block)) ≤ length (now out) ⌝ }
+    ensures { λ r. ⌜ Follows (now (out .entry)) at (linksOf (now (block .entry))) (now (out .exit)) r ⌝ }
+{
+    let from = word_at(block, 14);
+    let l = word_at(block, 6);
+    let mut at = at;
+    let mut k = 0;
+    while k < l {
+        at = put_link(block, from + 6 * k, out, at);
+        k += 1;
+    }
+    at
+}
