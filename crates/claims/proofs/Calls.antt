@@ -20,7 +20,7 @@ use Rattle.text.specs.Printed.{printedBytes}
 use Rattle.text.specs.declared.Printed.{Printed}
 use Rattle.network.proofs.Left.{zero-at}
 use Rattle.claims.specs.Drawing.{Drawing}
-use Rattle.claims.specs.Calls.{Memory, SameLengths, lengthsOf, Calls, Serves}
+use Rattle.claims.specs.Calls.{Memory, SameLengths, lengthsOf, Calls}
 use Rattle.claims.proofs.Drawn.{drawn}
 
 -- ── Leftovers ──
@@ -49,18 +49,6 @@ module _ (job : Bytes) (before before′ after after′ : Memory) (r r′ : Answ
     distances = (a .served .distances-left ∙ ap (λ n. replicate n 0) (same .distances-length) ∙ sym (b .served .distances-left)) i;
     links = (a .served .links-left ∙ ap linksAfter lent ∙ sym (b .served .links-left)) i;
   }
-
--- The same of a job that is served, over the same memory.
-pub same-served : (job : Bytes) (before after after′ : Memory) (out out₁ out₂ : Bytes) (r r′ : Printed) → Serves job before out r after out₁ →
-    Serves job before out r′ after′ out₂ → (r ≡ r′) × (after ≡ after′) × (out₁ ≡ out₂)
-same-served job before after after′ out out₁ out₂ r r′ a b =
-    let lengths : SameLengths before before = record { result-length = refl; states-length = refl; distances-length = refl; links-length = refl } in
-    let same = a .answered ∙ sym (b .answered) in
-    let text = printed (lengthsOf before) job in (
-      same,
-      same-memory job before before after after′ _ _ lengths (a .called) (b .called),
-      a .left ∙ ap (λ q. padded (length out) (printedBytes q text)) same ∙ sym (b .left),
-    )
 
 -- ── What a call leaves ──
 

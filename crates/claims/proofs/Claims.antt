@@ -32,7 +32,7 @@ use Rattle.answers.specs.Told.{Tells}
 use Rattle.answers.specs.declared.Told.{Told}
 use Rattle.text.specs.Printed.{ToldText, textRoom, textOf, printedBytes, RefusalLeft, TextLeft, BriefLeft}
 use Rattle.text.specs.declared.Printed.{Printed}
-use Rattle.text.specs.declared.Printed.the-variants.{Done, Room}
+use Rattle.text.specs.declared.Printed.the-variants.{Done, Short}
 use Rattle.text.proofs.Once as text
 use Rattle.service.specs.Served.{AnsweredJob, printedIn, Shown}
 use Rattle.service.proofs.Text as service
@@ -41,13 +41,13 @@ use Rattle.lookup.specs.declared.Place.{Place}
 use Rattle.lookup.proofs.Places as places
 use Rattle.hurdlesong_c.specs.Interface.{TextTold}
 use Rattle.hurdlesong_c.proofs.Interface as interface
-use Rattle.fasta.specs.Answers.{madeNumber, madeUsed}
-use Rattle.fasta.specs.declared.made.Made.{Made}
+use Rattle.fasta.specs.Answers.{conversionNumber, conversionUsed}
+use Rattle.fasta.specs.declared.conversion.Conversion.{Conversion}
 use Rattle.fasta.specs.Sequences.{sequences, sequence}
-use Rattle.fasta.specs.Turned.{Turned}
+use Rattle.fasta.specs.Converted.{Converted}
 use Rattle.claims.specs.Drawing.{Drawing}
-use Rattle.claims.specs.Refusals.{Condition, Turn}
-use Rattle.claims.specs.Calls.{Memory, SameLengths, lengthsOf, Calls, Serves, CallsTold}
+use Rattle.claims.specs.Refusals.{Condition, Due}
+use Rattle.claims.specs.Calls.{Memory, SameLengths, lengthsOf, Calls, CallsTold}
 use Rattle.claims.specs.Formed.{NotForForm}
 use Rattle.claims.specs.Handed.{Handed}
 use Rattle.claims.proofs.Drawn as drawing
@@ -83,7 +83,7 @@ module _ (job : Bytes) (before after : Memory) (r : Answer) (call : Calls job be
 
   -- ── Demand 2: each refusal is given exactly when its condition holds and no earlier one does ──
 
-  pub refused-exactly : (a : Answer) → number a ≢ 0 → (r ≡ a) ↔ Turn (lengthsOf before) job a
+  pub refused-exactly : (a : Answer) → number a ≢ 0 → (r ≡ a) ↔ Due (lengthsOf before) job a
   refused-exactly a n = rw (call .served .answered) (refusals.given-in-turn (lengthsOf before) job a n)
 
   -- No refusal is given exactly if no condition holds.
@@ -162,21 +162,26 @@ printed-text = service.text-is
 
 -- So it is in little memory: all of it or, where it lacks room, nothing. It never lacks room where there is room for every text.
 module _ (lent : Lent) (job : Bytes) (n : ℕ) (out : Bytes) (r : Printed) (brief : BriefLeft job (resultAfter lent job) (answer lent job) n out r) where
-  pub brief-whole : r ≢ Room → (r ≡ Done (length (printed lent job))) × (out ≡ padded n (printed lent job))
+  pub brief-whole : r ≢ Short → (r ≡ Done (length (printed lent job))) × (out ≡ padded n (printed lent job))
   brief-whole = service.brief-whole lent job brief
 
-  pub brief-roomy : textRoom ≤ n → r ≢ Room
+  pub brief-roomy : textRoom ≤ n → r ≢ Short
   brief-roomy = service.brief-roomy lent job brief
 
--- ── The service (`AnsweredJob`, `ServedText`), texts alone (`TextOnly`, `FastaText`) and what is told of an answer (`ToldOf`, `ToldText`, `ToldMade`): no choice is left ──
+-- What `text` prints of what a call leaves is document 01's text.
+module _ (job : Bytes) (before after : Memory) (r : Answer) (call : Calls job before r after) (n : ℕ) (out : Bytes) (p : Printed)
+    (t : TextLeft job (after .result) r n out p) where
+  pub called-text : p ≡ printedIn n (printed (lengthsOf before) job)
+  called-text = service.text-said (lengthsOf before) job (call .served .answered) (call .served .result-left) t
+
+  pub called-text-left : out ≡ padded n (printedBytes p (printed (lengthsOf before) job))
+  called-text-left = service.text-left (lengthsOf before) job (call .served .answered) (call .served .result-left) t
+
+-- ── The service (`AnsweredJob`), texts alone (`TextOnly`, `FastaText`) and what is told of an answer (`ToldOf`, `ToldText`, `ToldConversion`): no choice is left ──
 
 pub same-answered : (job result result₁ result₂ : Bytes) (r r′ : Answer) → AnsweredJob job result r result₁ → AnsweredJob job result r′ result₂ →
     (r ≡ r′) × (result₁ ≡ result₂)
 same-answered job result result₁ result₂ r r′ a b = (a .answered ∙ sym (b .answered), a .left ∙ sym (b .left))
-
-pub same-served : (job : Bytes) (before after after′ : Memory) (out out₁ out₂ : Bytes) (r r′ : Printed) → Serves job before out r after out₁ →
-    Serves job before out r′ after′ out₂ → (r ≡ r′) × (after ≡ after′) × (out₁ ≡ out₂)
-same-served = calls.same-served
 
 pub same-shown : (xs out out₁ out₂ : Bytes) (r r′ : ℕ) → Shown xs out r out₁ → Shown xs out r′ out₂ → (r ≡ r′) × (out₁ ≡ out₂)
 same-shown xs out out₁ out₂ r r′ a b = (a .used-is ∙ sym (b .used-is), a .left ∙ sym (b .left))
@@ -224,33 +229,33 @@ module _ (job : Bytes) (before after : Memory) (r t : Told) (lent : ℕ) (out : 
   pub told-text-left : out ≡ padded lent (printedBytes (printedIn lent (printed (lengthsOf before) job)) (printed (lengthsOf before) job))
   told-text-left = interface.text-left call text
 
--- ── FASTA texts (`Turned`, the contract of `make_job`) ──
+-- ── FASTA texts (`Converted`, the contract of `make_job`) ──
 
-module _ (text job : Bytes) (e lent : ℕ) (r : Made) (turn : Turned text e lent job r) where
+module _ (text job : Bytes) (e lent : ℕ) (r : Conversion) (turn : Converted text e lent job r) where
   -- Past the bytes used the lent job is zero; a refusal uses none.
-  pub fasta-past-zero : (k : ℕ) → madeUsed r ≤ k → getD job k 0 ≡ 0
+  pub fasta-past-zero : (k : ℕ) → conversionUsed r ≤ k → getD job k 0 ≡ 0
   fasta-past-zero = fasta.past-zero turn
 
-  module _ (z : madeNumber r ≡ 0) where
+  module _ (z : conversionNumber r ≡ 0) where
     -- A job that is made passes checks 2 to 7, so the call refuses it for none of them, whatever memory is lent.
-    pub made-passes : checked (take (madeUsed r) job) ≡ passed
+    pub made-passes : checked (take (conversionUsed r) job) ≡ passed
     made-passes = fasta.made-passes turn z
 
-    pub made-not-for-form : (memory : Lent) → NotForForm (answer memory (take (madeUsed r) job))
-    made-not-for-form memory = fasta.not-for-form memory (take (madeUsed r) job) made-passes
+    pub made-not-for-form : (memory : Lent) → NotForForm (answer memory (take (conversionUsed r) job))
+    made-not-for-form memory = fasta.not-for-form memory (take (conversionUsed r) job) made-passes
 
     -- Its rows are the text's sequences in order; its weights are all 1; its epsilon is the one given.
-    pub made-rows : jobRows (take (madeUsed r) job) ≡ table (sequences text) (sequence text)
+    pub made-rows : jobRows (take (conversionUsed r) job) ≡ table (sequences text) (sequence text)
     made-rows = fasta.made-rows turn z
 
-    pub made-weights : weights (take (madeUsed r) job) ≡ replicate (length (sequence text 0)) 1
+    pub made-weights : weights (take (conversionUsed r) job) ≡ replicate (length (sequence text 0)) 1
     made-weights = fasta.made-weights turn z
 
-    pub made-epsilon : epsilon (take (madeUsed r) job) ≡ e
+    pub made-epsilon : epsilon (take (conversionUsed r) job) ≡ e
     made-epsilon = fasta.made-epsilon turn z
 
 -- The contract leaves no choice.
-pub same-made : (text : Bytes) (e lent : ℕ) (job job′ : Bytes) (r r′ : Made) → Turned text e lent job r → Turned text e lent job′ r′ →
+pub same-made : (text : Bytes) (e lent : ℕ) (job job′ : Bytes) (r r′ : Conversion) → Converted text e lent job r → Converted text e lent job′ r′ →
     (r ≡ r′) × (job ≡ job′)
 same-made text e lent job job′ r r′ a b = (a .answered ∙ sym (b .answered), a .left ∙ sym (b .left))
 

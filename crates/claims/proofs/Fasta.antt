@@ -16,12 +16,12 @@ use Rattle.rules.specs.Run.{Outcome, settled, full, phaseTwo, split}
 use Rattle.rules.specs.Call.{Verdict, refused, found, _then_, ended, outcome, verdict, answer, answerTo}
 use Rattle.rules.specs.declared.Answer.{Answer}
 use Rattle.rules.specs.declared.Answer.the-variants.{Area, Types, Split}
-use Rattle.fasta.specs.Answers.{madeNumber, madeUsed, refuses}
-use Rattle.fasta.specs.declared.made.Made.{Made}
+use Rattle.fasta.specs.Answers.{conversionNumber, conversionUsed, refuses}
+use Rattle.fasta.specs.declared.conversion.Conversion.{Conversion}
 use Rattle.fasta.specs.Sequences.{sequences, sequence}
 use Rattle.fasta.proofs.alignment.Readable.{readable}
 use Rattle.fasta.specs.Block.{jobOf}
-use Rattle.fasta.specs.Turned.{turned, jobAfter, Turned}
+use Rattle.fasta.specs.Converted.{conversionOf, jobAfter, Converted}
 use Rattle.fasta.proofs.JobOf as made
 use Rattle.fasta.proofs.Ready.{Ready, enough, ready, used-written}
 use Rattle.claims.specs.Formed.{NotForForm}
@@ -58,25 +58,25 @@ not-for-form lent job e =
 
 -- ── A job that was made ──
 
-module _ {text job : Bytes} {e lent : ℕ} {r : Made} (t : Turned text e lent job r) (z : madeNumber r ≡ 0) where
-  is-ready : Ready text e job (madeUsed r)
+module _ {text job : Bytes} {e lent : ℕ} {r : Conversion} (t : Converted text e lent job r) (z : conversionNumber r ≡ 0) where
+  is-ready : Ready text e job (conversionUsed r)
   is-ready = ready t (enough t z) z refl
 
-  pub made-passes : checked (take (madeUsed r) job) ≡ passed
+  pub made-passes : checked (take (conversionUsed r) job) ≡ passed
   made-passes = rw (is-ready .block) (made.passes e text (readable text (is-ready .passes)))
 
-  pub made-rows : jobRows (take (madeUsed r) job) ≡ table (sequences text) (sequence text)
+  pub made-rows : jobRows (take (conversionUsed r) job) ≡ table (sequences text) (sequence text)
   made-rows = rw (is-ready .block) (made.rows-are e text (readable text (is-ready .passes)))
 
-  pub made-weights : weights (take (madeUsed r) job) ≡ replicate (length (sequence text 0)) 1
+  pub made-weights : weights (take (conversionUsed r) job) ≡ replicate (length (sequence text 0)) 1
   made-weights = rw (is-ready .block) (made.weights-are e text (readable text (is-ready .passes)))
 
-  pub made-epsilon : epsilon (take (madeUsed r) job) ≡ e
+  pub made-epsilon : epsilon (take (conversionUsed r) job) ≡ e
   made-epsilon = rw (is-ready .block) (made.epsilon-is e text)
 
 -- Zeros past the block, and throughout after a refusal, which uses no bytes.
-pub past-zero : {text job : Bytes} {e lent : ℕ} {r : Made} → Turned text e lent job r → (k : ℕ) → madeUsed r ≤ k → getD job k 0 ≡ 0
+pub past-zero : {text job : Bytes} {e lent : ℕ} {r : Conversion} → Converted text e lent job r → (k : ℕ) → conversionUsed r ≤ k → getD job k 0 ≡ 0
 unfolding jobAfter
 past-zero {text} {e} {lent} t k h =
-    let xs : Bytes = cond (refuses (turned lent e text)) [] (jobOf e text) in
+    let xs : Bytes = cond (refuses (conversionOf lent e text)) [] (jobOf e text) in
     rw (t .left) (zeros-behind xs (lent - length xs) k (rw (used-written lent e text, ← t .answered) h))

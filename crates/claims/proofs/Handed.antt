@@ -17,7 +17,7 @@ use Rattle.lookup.proofs.matching.Match.{matched-is}
 use Rattle.lookup.specs.Places.{Points}
 use Rattle.lookup.proofs.Places.{in-job, in-result, no-states}
 use Rattle.lookup.proofs.Rows.{unmatched, past, sampled-out, sampled-row, inferred-out, inferred-row}
-use Rattle.claims.specs.Handed.{t, s, placeOf, Handed}
+use Rattle.claims.specs.Handed.{t, s, recordPlace, Handed}
 
 module _ (job block : Bytes) (k : ℕ) where
   -- Job and block match where the conditions on both hold.
@@ -37,16 +37,16 @@ module _ (job block : Bytes) (k : ℕ) where
       )
 
   module _ (h : Handed job block k) where
-    row-sampled : k < s block → Points job block k (record { source = 1; at = 12 + 2 * width job + placeOf block k * width job; length = width job })
+    row-sampled : k < s block → Points job block k (record { source = 1; at = 12 + 2 * width job + recordPlace block k * width job; length = width job })
     row-sampled l = sampled-row job block k (handed-matches h) (h .number-known) l refl refl (h .place-sampled l)
 
-    row-inferred : s block ≤ k → Points job block k (record { source = 2; at = 16 + 6 * t block + placeOf block k * width job; length = width job })
+    row-inferred : s block ≤ k → Points job block k (record { source = 2; at = 16 + 6 * t block + recordPlace block k * width job; length = width job })
     row-inferred l = inferred-row job block k (handed-matches h) (h .number-known) l refl refl refl (h .place-inferred l)
 
-    pub handed-sampled : k < s block → lookup job block k ≡ take (width job) (drop (12 + 2 * width job + placeOf block k * width job) job)
+    pub handed-sampled : k < s block → lookup job block k ≡ take (width job) (drop (12 + 2 * width job + recordPlace block k * width job) job)
     handed-sampled l = sym (in-job (row-sampled l) refl)
 
-    pub handed-inferred : s block ≤ k → lookup job block k ≡ take (width job) (drop (16 + 6 * t block + placeOf block k * width job) block)
+    pub handed-inferred : s block ≤ k → lookup job block k ≡ take (width job) (drop (16 + 6 * t block + recordPlace block k * width job) block)
     handed-inferred l = sym (in-result (row-inferred l) refl)
 
     -- So many states are handed back as the job's rows have, and there is at least one.
@@ -80,11 +80,11 @@ module _ (job block : Bytes) (k : ℕ) where
             links-field = h .links-field;
             reaches = h .reaches;
             number-known = known;
-            place-sampled = λ l. elim (decLt (placeOf block k) (rows job)) [
+            place-sampled = λ l. elim (decLt (recordPlace block k) (rows job)) [
               | yes g ↦ g
               | no f ↦ absurd (n (sym (no-states (sampled-out job block k e known l (omega arith)) refl)))
             ];
-            place-inferred = λ l. elim (decLt (placeOf block k) (t block - s block)) [
+            place-inferred = λ l. elim (decLt (recordPlace block k) (t block - s block)) [
               | yes g ↦ g
               | no f ↦ absurd (n (sym (no-states (inferred-out job block k e known l (omega arith)) refl)))
             ];

@@ -25,7 +25,7 @@ use Rattle.rules.proofs.Ends.{phase-same}
 use Rattle.rules.proofs.Types.{is-first, Nth, too-many, too-many-at, length-sampled, few-sampled}
 use Rattle.readback.specs.Runs.{Runs}
 use Rattle.readback.proofs.Found.{never-split-network, unrefused, runs-outcome}
-use Rattle.claims.specs.Refusals.{FirstOf, Outside, WrongField, weights-offset, states-offset, whole-length, bytes-lent, Type129, Condition, order, Turn}
+use Rattle.claims.specs.Refusals.{FirstWhere, Outside, WrongField, weights-offset, states-offset, whole-length, bytes-lent, Type129, Condition, order, Due}
 use Rattle.claims.proofs.Drawing.{network-joined}
 
 -- ── The table by its numbers ──
@@ -65,13 +65,13 @@ or-tests : {s t : Bool} {A B : Type 0} → Tests s A → Tests t B → Tests (s 
 or-tests {s} {t} f g = let o = or-true s t in (λ e. ⊎-map (f .0) (g .0) (o .0 e), λ h. o .1 (⊎-map (f .1) (g .1) h))
 
 module _ (n : ℕ) (t : ℕ → Bool) (P : ℕ → Type 0) (is : (i : ℕ) → Tests (t i) (P i)) where
-  first-tests : Tests (ltb (first n t) n) (FirstOf n P (first n t))
+  first-tests : Tests (ltb (first n t) n) (FirstWhere n P (first n t))
   first-tests = (λ e. let h = ltb-true _ _ e in record { below = h; here = is _ .0 (first-hits n t h); before = λ i l p. false≢true (sym (first-before n t i l) ∙ is i .1 p) }, λ f. lt-ltb _ _ (f .below))
 
-  first-one : (p : ℕ) → FirstOf n P p → FirstOf n P (first n t)
+  first-one : (p : ℕ) → FirstWhere n P p → FirstWhere n P (first n t)
   first-one p f = rw (first-is n t p (omega (arith, f .below)) (λ i l. is-false (t i) (λ e. f .before i l (is i .0 e))) (λ l. is p .1 (f .here))) f
 
-first-same : {n : ℕ} {P : ℕ → Type 0} (p q : ℕ) → FirstOf n P p → FirstOf n P q → p ≡ q
+first-same : {n : ℕ} {P : ℕ → Type 0} (p q : ℕ) → FirstWhere n P p → FirstWhere n P q → p ≡ q
 first-same p q f g = elim (decLt p q) [
   | yes h ↦ absurd (g .before p h (f .here))
   | no h ↦ elim (decLt q p) [ yes l ↦ absurd (f .before q l (g .here)) | no l ↦ omega arith ]
@@ -330,7 +330,7 @@ order-is (Types row) = refl
 order-is (Room round) = refl
 order-is Split = refl
 
-pub given-in-turn : (lent : Lent) (job : Bytes) (a : Answer) → number a ≢ 0 → (answer lent job ≡ a) ↔ Turn lent job a
+pub given-in-turn : (lent : Lent) (job : Bytes) (a : Answer) → number a ≢ 0 → (answer lent job ≡ a) ↔ Due lent job a
 given-in-turn lent job a n =
     let (there, back) = refused-exactly lent job a n in (
       λ e. let (given, none) = there e in (given, λ b h. none b (omega (arith, h, order-is a, order-is b))),

@@ -1,5 +1,5 @@
 -- The public call as a whole: what is lent, before and after. The claims about it name `Called`, the contract of `call` in `network`,
--- `ServedText`, that of `serve` in `service`, and `CallTold`, that of `hurdlesong_call` in `hurdlesong_c`.
+-- and `CallTold`, that of `hurdlesong_call` in `hurdlesong_c`.
 use mathlib.Core.Path.{_≡_}
 use mathlib.Core.List.{List}
 use Prim.Native.Nat.{ℕ}
@@ -9,9 +9,7 @@ use Rattle.rules.specs.Lent.{Lent}
 use Rattle.rules.specs.declared.Answer.{Answer}
 use Rattle.rules.specs.declared.Link.{Link}
 use Rattle.answers.specs.declared.Told.{Told}
-use Rattle.text.specs.declared.Printed.{Printed}
 use Rattle.network.specs.Called.{lentBy, Called}
-use Rattle.service.specs.Served.{ServedText}
 use Rattle.hurdlesong_c.specs.Interface.{CallTold}
 
 -- The memory lent to one job after another: result, state area, distance area, link table.
@@ -35,11 +33,6 @@ lengthsOf m = lentBy (m .result) (m .states) (m .distances) (m .links)
 abbrev pub Calls : Bytes → Memory → Answer → Memory → Type 0
 Calls job before r after =
     Called job (before .result) (before .states) (before .distances) (before .links) r (after .result) (after .states) (after .distances) (after .links)
-
--- A job is served: memory and the memory for its text before, how the text ended, both after.
-abbrev pub Serves : Bytes → Memory → Bytes → Printed → Memory → Bytes → Type 0
-Serves job before out r after out′ =
-    ServedText job (before .result) (before .states) (before .distances) (before .links) out r (after .result) (after .states) (after .distances) (after .links) out′
 
 -- A job is called from C: what is told of the answer.
 abbrev pub CallsTold : Bytes → Memory → Told → Memory → Type 0

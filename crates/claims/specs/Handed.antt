@@ -13,8 +13,8 @@ t block = word block 0
 abbrev pub s : Bytes → ℕ
 s block = word block 2
 
-abbrev pub placeOf : Bytes → ℕ → ℕ
-placeOf block k = word block (16 + 6 * k + 2)
+abbrev pub recordPlace : Bytes → ℕ → ℕ
+recordPlace block k = word block (16 + 6 * k + 2)
 
 -- It does so exactly if the job passes checks 2 to 7; the result block has at least 16 bytes, s ≤ t ≤ 128, 1 ≤ s, the job's m, the three
 -- offsets as above, and reaches to the links' offset; the number is below t; and the record's place is below n if the number is below s,
@@ -31,5 +31,5 @@ pub record Handed (job block : Bytes) (k : ℕ) : Type 0 where
   pub links-field : word block 14 ≡ 16 + 6 * t block + (t block - s block) * width job
   pub reaches : 16 + 6 * t block + (t block - s block) * width job ≤ length block
   pub number-known : k < t block
-  pub place-sampled : k < s block → placeOf block k < rows job
-  pub place-inferred : s block ≤ k → placeOf block k < t block - s block
+  pub place-sampled : k < s block → recordPlace block k < rows job
+  pub place-inferred : s block ≤ k → recordPlace block k < t block - s block

@@ -16,7 +16,7 @@ use Rattle.readback.specs.Runs.{Runs}
 use Rattle.claims.specs.Drawing.{JoinsAll}
 
 -- Of the numbers below n, p is the first of which P holds.
-pub record FirstOf (n : ℕ) (P : ℕ → Type 0) (p : ℕ) : Type 0 where
+pub record FirstWhere (n : ℕ) (P : ℕ → Type 0) (p : ℕ) : Type 0 where
   pub below : p < n
   pub here : P p
   pub before : (i : ℕ) → i < p → ¬ P i
@@ -46,8 +46,8 @@ Condition lent job Head = length job < 12
 Condition lent job Rows = (rows job ≡ 0) ⊎ (256 < rows job)
 Condition lent job Width = (width job ≡ 0) ⊎ (64 < width job)
 Condition lent job (Layout place) = WrongField job place
-Condition lent job (Weight column) = FirstOf (width job) (λ c. (weightAt job c ≡ 0) ⊎ (1000 < weightAt job c)) column
-Condition lent job (State place) = FirstOf (rows job * width job) (λ i. Outside 33 126 (stateAt job i)) place
+Condition lent job (Weight column) = FirstWhere (width job) (λ c. (weightAt job c ≡ 0) ⊎ (1000 < weightAt job c)) column
+Condition lent job (State place) = FirstWhere (rows job * width job) (λ i. Outside 33 126 (stateAt job i)) place
 Condition lent job (Types row) = Type129 (jobRows job) row
 Condition lent job (Room round) = Runs job (full round)
 Condition lent job Split = (run : Run) × Runs job (settled run) × ¬ JoinsAll (phaseTwo (weights job) run)
@@ -67,5 +67,5 @@ order (Room round) = 9
 order Split = 10
 
 -- A refusal's turn: its condition holds, and none that is tried before it does.
-abbrev pub Turn : Lent → Bytes → Answer → Type 0
-Turn lent job a = Condition lent job a × ((b : Answer) → order b < order a → ¬ Condition lent job b)
+abbrev pub Due : Lent → Bytes → Answer → Type 0
+Due lent job a = Condition lent job a × ((b : Answer) → order b < order a → ¬ Condition lent job b)

@@ -9,7 +9,7 @@ use native.Mathlib.Decide.{map-dec, ℕ-discrete, decLe, decLt}
 use native.Mathlib.Omega.{arith}
 use lib.ListN.{length, set, length-set}
 use lib.Seq.{getD-set-same, getD-set-other, ext-getD}
-use Rattle.distances.specs.Area.{cellAt, Written, Line, New}
+use Rattle.distances.specs.Area.{cellAt, CellsWritten, Line, New}
 
 abbrev pub Asked : Type 1
 Asked = ℕ → ℕ → Type 0
@@ -33,7 +33,7 @@ cell-or-not t p few = elim (decLt (p / 128) t) [
 ]
 
 -- A cell that was not asked for is as it was.
-pub cell-kept : {asked : Asked} {f : ℕ → ℕ → ℕ} {before after : List ℕ} → Written asked f before after → Narrow asked →
+pub cell-kept : {asked : Asked} {f : ℕ → ℕ → ℕ} {before after : List ℕ} → CellsWritten asked f before after → Narrow asked →
     (i j : ℕ) → j < 128 → ¬ asked i j → cellAt after i j ≡ cellAt before i j
 cell-kept {asked} w narrow i j h other = w .kept (128 * i + j) (λ a b t e.
     let column = narrow a b t in
@@ -42,12 +42,12 @@ cell-kept {asked} w narrow i j h other = w .kept (128 * i + j) (λ a b t e.
     other (rw (line, same) at t))
 
 -- Nothing was asked for, and nothing changed.
-pub none-written : {asked : Asked} {f : ℕ → ℕ → ℕ} {area : List ℕ} → ((i j : ℕ) → ¬ asked i j) → Written asked f area area
+pub none-written : {asked : Asked} {f : ℕ → ℕ → ℕ} {area : List ℕ} → ((i j : ℕ) → ¬ asked i j) → CellsWritten asked f area area
 none-written none = record { size = refl; holds = λ i j t. absurd (none i j t); kept = λ p other. refl }
 
 -- The same, by other words for the same cells, and other numbers that are equal there.
-pub written-as : {asked asked′ : Asked} {f f′ : ℕ → ℕ → ℕ} {before after : List ℕ} → Written asked f before after →
-    ((i j : ℕ) → asked i j ↔ asked′ i j) → ((i j : ℕ) → asked′ i j → f i j ≡ f′ i j) → Written asked′ f′ before after
+pub written-as : {asked asked′ : Asked} {f f′ : ℕ → ℕ → ℕ} {before after : List ℕ} → CellsWritten asked f before after →
+    ((i j : ℕ) → asked i j ↔ asked′ i j) → ((i j : ℕ) → asked′ i j → f i j ≡ f′ i j) → CellsWritten asked′ f′ before after
 written-as w same equal = record {
   size = w .size;
   holds = λ i j t. w .holds i j (same i j .1 t) ∙ equal i j t;
@@ -56,7 +56,7 @@ written-as w same equal = record {
 
 -- One store.
 pub written-one : {f : ℕ → ℕ → ℕ} (area : List ℕ) (i j v : ℕ) → 128 * i + j < length area → v ≡ f i j →
-    Written (Cell i j) f area (set area (128 * i + j) v)
+    CellsWritten (Cell i j) f area (set area (128 * i + j) v)
 written-one area i j v h e = record {
   size = length-set area (128 * i + j) v;
   holds = λ a b t. rw (t .0, t .1, e) (getD-set-same area (128 * i + j) _ 0 h);
@@ -64,8 +64,8 @@ written-one area i j v h e = record {
 }
 
 -- First some, and then others or the same again.
-pub written-both : {first then : Asked} {f : ℕ → ℕ → ℕ} {before mid after : List ℕ} → Written first f before mid → Written then f mid after →
-    Narrow first → Narrow then → ((i j : ℕ) → first i j → Dec (then i j)) → Written (λ i j. first i j ⊎ then i j) f before after
+pub written-both : {first then : Asked} {f : ℕ → ℕ → ℕ} {before mid after : List ℕ} → CellsWritten first f before mid → CellsWritten then f mid after →
+    Narrow first → Narrow then → ((i j : ℕ) → first i j → Dec (then i j)) → CellsWritten (λ i j. first i j ⊎ then i j) f before after
 written-both {first} w x nf nt again = record {
   size = x .size ∙ w .size;
   holds = λ i j. ⊎-elim (λ t. elim (again i j t) [
@@ -76,9 +76,9 @@ written-both {first} w x nf nt again = record {
 }
 
 -- One store more, in a new cell or in one asked for before.
-pub written-more : {asked more : Asked} {f : ℕ → ℕ → ℕ} {before after : List ℕ} → Written asked f before after → Narrow more →
+pub written-more : {asked more : Asked} {f : ℕ → ℕ → ℕ} {before after : List ℕ} → CellsWritten asked f before after → Narrow more →
     (i j v : ℕ) → ((a b : ℕ) → (asked a b ⊎ Cell i j a b) ↔ more a b) → 128 * i + j < length before → v ≡ f i j →
-    Written more f before (set after (128 * i + j) v)
+    CellsWritten more f before (set after (128 * i + j) v)
 written-more {asked} {more} {f} {before} {after} w narrow i j v same h e =
     let size = w .size in
     let both = written-both w (written-one {f = f} after i j v (omega arith) e) (λ a b t. narrow a b (same a b .0 (inl t)))
@@ -87,7 +87,7 @@ written-more {asked} {more} {f} {before} {after} w narrow i j v same h e =
 
 -- Two who write the same numbers to the same cells leave the same.
 pub written-once : {asked : Asked} {f : ℕ → ℕ → ℕ} {before a b : List ℕ} → Narrow asked → ((i j : ℕ) → Dec (asked i j)) →
-    Written asked f before a → Written asked f before b → a ≡ b
+    CellsWritten asked f before a → CellsWritten asked f before b → a ≡ b
 written-once {asked} {f} {before} {a} {b} narrow dec w x = ext-getD 0 a b (w .size ∙ sym (x .size)) (λ p h.
     rw (← div-add-mod p 128) (cells (p / 128) (p % 128) (mod-lt p (omega arith))))
   where

@@ -16,7 +16,7 @@ use Rattle.rules.specs.Distance.{difference, distance, apart}
 use Rattle.rules.specs.Call.{padded}
 use Rattle.types.specs.State.{stored, storedAt}
 use Rattle.types.proofs.State.{OfWidth, length-stored, stored-state}
-use Rattle.distances.specs.Area.{cellAt, Measures, Written, New, storedApart}
+use Rattle.distances.specs.Area.{cellAt, Measures, CellsWritten, New, storedApart}
 use Rattle.distances.proofs.Area.{cell-kept, new-narrow}
 
 -- A character that weighs nothing makes no difference.
@@ -54,12 +54,12 @@ module _ (m : ℕ) (rs : List Row) (small : m ≤ 64) (wide : OfWidth m rs) (ws 
 
   -- An area that measures the first k rows measures all of them once the pairs of the others are written.
   pub measures-new : (k : ℕ) (before after : List ℕ) → length rs ≤ 128 → ((i j : ℕ) → i < j → j < k → cellAt before i j ≡ apart ws rs i j) →
-      Written (New k (length rs)) (storedApart (padded 64 ws) states) before after → Measures ws rs after
+      CellsWritten (New k (length rs)) (storedApart (padded 64 ws) states) before after → Measures ws rs after
   measures-new k before after few known w i j h l = elim (decLt j k) [
     | yes g ↦ cell-kept w (new-narrow k (length rs) few) i j (omega arith) (λ t. omega (arith, t .first)) ∙ known i j h g
     | no g ↦ w .holds i j (record { rising = h; first = omega arith; last = l }) ∙ measured i j (omega arith) l
   ]
 
-  pub measures-all : (before after : List ℕ) → length rs ≤ 128 → Written (New 0 (length rs)) (storedApart (padded 64 ws) states) before after →
+  pub measures-all : (before after : List ℕ) → length rs ≤ 128 → CellsWritten (New 0 (length rs)) (storedApart (padded 64 ws) states) before after →
       Measures ws rs after
   measures-all before after few = measures-new 0 before after few (λ i j h g. absurd (omega arith))

@@ -19,7 +19,7 @@ use Rattle.rules.proofs.Block.{Stands, stands-front, stands-rear, stands-in, st
 use Rattle.fasta.specs.Sequences.{sequences, sequence}
 use Rattle.fasta.proofs.alignment.Faults.{states-within}
 use Rattle.fasta.proofs.alignment.Readable.{Readable}
-use Rattle.fasta.specs.Block.{headOf, weightsOf, jobOf}
+use Rattle.fasta.specs.Block.{jobHeader, weightsOf, jobOf}
 
 -- ── A job that no test refuses ──
 
@@ -53,7 +53,7 @@ abbrev pub widthOf : Bytes → ℕ
 widthOf text = length (sequence text 0)
 
 abbrev numbersOf : ℕ → Bytes → List ℕ
-numbersOf e text = headOf (sequences text) (widthOf text) e
+numbersOf e text = jobHeader (sequences text) (widthOf text) e
 
 abbrev statesOf : Bytes → Bytes
 statesOf text = gather (sequences text) (sequence text)
@@ -122,8 +122,8 @@ module _ (e : ℕ) (text : Bytes) (r : Readable text) where
       rw (stands-getD (states-stand e text) i 0 l) (states-within text (length text) k x (r .clear) g)
 
   -- Every test of document 01 lets the job pass.
-  made : Passed (jobOf e text)
-  made = record {
+  conversion : Passed (jobOf e text)
+  conversion = record {
     head = omega (arith, length-job);
     rows-within = rw (rows-is e text) (record { at-least = r .some; at-most = r .few });
     width-within = rw (width-is e text) (record { at-least = r .some-width; at-most = r .narrow });
@@ -136,12 +136,12 @@ module _ (e : ℕ) (text : Bytes) (r : Readable text) where
   }
 
   pub passes : checked (jobOf e text) ≡ passed
-  passes = none-refuses (jobOf e text) made
+  passes = none-refuses (jobOf e text) conversion
 
   row-is : (k : ℕ) → k < sequences text → jobRow (jobOf e text) k ≡ sequence text k
   row-is k h =
       let s = stands-in (states-stand e text) (stands-gather (widthOf text) (sequences text) (sequence text) (r .even) k h) refl in
-      sym (row-part (jobOf e text) k made (rw (rows-is e text) h)) ∙ rw (width-is e text) (rw (r .even k h) at (stands-part s))
+      sym (row-part (jobOf e text) k conversion (rw (rows-is e text) h)) ∙ rw (width-is e text) (rw (r .even k h) at (stands-part s))
 
   pub rows-are : jobRows (jobOf e text) ≡ table (sequences text) (sequence text)
   unfolding jobRows

@@ -5,52 +5,46 @@ use Prim.Native.Nat.{ℕ}
 use lib.Dec.{eqb}
 use Rattle.answers.specs.Told.{Tells}
 use Rattle.answers.specs.declared.Told.{Told}
-use Rattle.fasta.specs.declared.made.Made.{Made}
-use Rattle.fasta.specs.declared.made.Made.the-variants.{Done, Short, Before, Byte, Wide, Many, Empty, Uneven}
+use Rattle.fasta.specs.declared.conversion.Conversion.{Conversion}
+use Rattle.fasta.specs.declared.conversion.Conversion.the-variants.{Done, Short, Before, Byte, Wide, Many, Empty, Uneven}
 
-abbrev pub madeNumber : Made → ℕ
-madeNumber (Done used) = 0
-madeNumber Short = 20
-madeNumber (Before place) = 21
-madeNumber (Byte place) = 22
-madeNumber (Wide place) = 23
-madeNumber (Many place) = 24
-madeNumber (Empty place) = 25
-madeNumber (Uneven place) = 26
+abbrev pub conversionNumber : Conversion → ℕ
+conversionNumber (Done used) = 0
+conversionNumber Short = 20
+conversionNumber (Before place) = 21
+conversionNumber (Byte place) = 22
+conversionNumber (Wide place) = 23
+conversionNumber (Many place) = 24
+conversionNumber (Empty place) = 25
+conversionNumber (Uneven place) = 26
 
 -- 21 to 24 are placed by byte, 25 and 26 by sequence.
-abbrev pub madePlace : Made → ℕ
-madePlace (Done used) = 0
-madePlace Short = 0
-madePlace (Before byte) = byte
-madePlace (Byte byte) = byte
-madePlace (Wide byte) = byte
-madePlace (Many byte) = byte
-madePlace (Empty sequence) = sequence
-madePlace (Uneven sequence) = sequence
+abbrev pub conversionPlace : Conversion → ℕ
+conversionPlace (Done used) = 0
+conversionPlace Short = 0
+conversionPlace (Before byte) = byte
+conversionPlace (Byte byte) = byte
+conversionPlace (Wide byte) = byte
+conversionPlace (Many byte) = byte
+conversionPlace (Empty sequence) = sequence
+conversionPlace (Uneven sequence) = sequence
 
-abbrev pub madeUsed : Made → ℕ
-madeUsed (Done used) = used
-madeUsed Short = 0
-madeUsed (Before place) = 0
-madeUsed (Byte place) = 0
-madeUsed (Wide place) = 0
-madeUsed (Many place) = 0
-madeUsed (Empty place) = 0
-madeUsed (Uneven place) = 0
+abbrev pub conversionUsed : Conversion → ℕ
+conversionUsed (Done used) = used
+conversionUsed Short = 0
+conversionUsed (Before place) = 0
+conversionUsed (Byte place) = 0
+conversionUsed (Wide place) = 0
+conversionUsed (Many place) = 0
+conversionUsed (Empty place) = 0
+conversionUsed (Uneven place) = 0
 
-abbrev pub ToldMade : Made → Told → Type 0
-ToldMade made r = Tells (madeNumber made) (madePlace made) (madeUsed made) r
+abbrev pub ToldConversion : Conversion → Told → Type 0
+ToldConversion conversion r = Tells (conversionNumber conversion) (conversionPlace conversion) (conversionUsed conversion) r
 
-abbrev pub refuses : Made → Bool
-refuses made = not (eqb (madeNumber made) 0)
+abbrev pub refuses : Conversion → Bool
+refuses conversion = not (eqb (conversionNumber conversion) 0)
 
--- The refusal where its test passes, and else what is tried next.
-infixr 1 when_refuse_else_
-abbrev pub when_refuse_else_ : Bool → Made → Made → Made
-when true refuse a else next = a
-when false refuse a else next = next
-
--- What passed every test so far, and has used nothing yet.
-abbrev pub passed : Made
-passed = Done 0
+-- No fault so far, and nothing is used yet.
+abbrev pub noFault : Conversion
+noFault = Done 0

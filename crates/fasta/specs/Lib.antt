@@ -1,5 +1,5 @@
 pub mod Block
-pub mod Turned
+pub mod Converted
 pub mod Lines
 pub mod Answers
 pub mod Sequences

@@ -1,47 +1,50 @@
 // The room of FASTA: a text and an epsilon become a job block with all weights 1, in memory that is lent. The text is only read.
 
 pub mod alignment;
-pub mod fasta_lines;
-pub mod made;
+pub mod conversion;
+pub mod lines;
 
 ghost use mathlib.Core.Path.{_≡_};
 ghost use Prim.Native.Nat.{_+_, _*_, _≤_};
 ghost use lib.ListN.{length};
 ghost use Rattle.graph.specs.Below.{only};
+ghost use Rattle.rules.specs.Sizes.{mostRows, mostWidth, jobHead};
 ghost use Rattle.rules.specs.Result.{words};
 ghost use Rattle.memory.specs.Placed.{placed, Follows};
 ghost use Rattle.fasta.specs.Lines.{byteAt, isState, AtByte};
 ghost use Rattle.fasta.specs.Sequences.{states};
-ghost use Rattle.fasta.specs.Block.{headOf, weightsOf};
-ghost use Rattle.fasta.specs.Turned.{Turned};
-use crate::alignment::measure;
-use crate::fasta_lines::is_state;
-use crate::fasta_lines::next_line;
-use crate::made::Made;
-use crate::made::tell_made;
+ghost use Rattle.fasta.specs.Block.{jobHeader, weightsOf};
+ghost use Rattle.fasta.specs.Converted.{Converted};
+use crate::alignment::size_of_job;
+use crate::conversion::Conversion;
+use crate::conversion::tell_conversion;
+use crate::lines::is_state;
+use crate::lines::next_line;
 use memory::clear_bytes;
+use memory::put_three;
 use memory::put_word;
-use result::records::put_three;
+use rules::JOB_HEAD;
+use rules::LARGEST_JOB;
 
 // The six numbers of the header.
-fn put_head(n: usize, m: usize, epsilon: usize, job: &mut [u8])
-    requires { ⌜ (n ≤ 256) × (m ≤ 64) × (epsilon ≤ 65535) × (12 ≤ length (now job)) ⌝ }
-    ensures { λ _. ⌜ now (job .exit) ≡ placed (now (job .entry)) 0 (words (headOf n m epsilon)) ⌝ }
+fn put_job_header(n: usize, m: usize, epsilon: usize, job: &mut [u8])
+    requires { ⌜ (n ≤ mostRows) × (m ≤ mostWidth) × (epsilon ≤ 65535) × (jobHead ≤ length (now job)) ⌝ }
+    ensures { λ _. ⌜ now (job .exit) ≡ placed (now (job .entry)) 0 (words (jobHeader n m epsilon)) ⌝ }
 {
-    let states = 12 + 2 * m;
+    let states = JOB_HEAD + 2 * m;
     let whole = states + n * m;
     put_three(job, 0, n, m, epsilon);
-    put_three(job, 6, 12, states, whole);
+    put_three(job, 6, JOB_HEAD, states, whole);
 }
 
 // All weights are 1.
 fn put_weights(m: usize, job: &mut [u8])
-    requires { ⌜ 12 + 2 * m ≤ length (now job) ⌝ }
-    ensures { λ _. ⌜ now (job .exit) ≡ placed (now (job .entry)) 12 (weightsOf m) ⌝ }
+    requires { ⌜ jobHead + 2 * m ≤ length (now job) ⌝ }
+    ensures { λ _. ⌜ now (job .exit) ≡ placed (now (job .entry)) jobHead (weightsOf m) ⌝ }
 {
     let mut c = 0;
     while c < m {
-        put_word(job, 12 + 2 * c, 1);
+        put_word(job, JOB_HEAD + 2 * c, 1);
         c += 1;
     }
 }
@@ -74,25 +77,25 @@ fn put_states(text: &[u8], job: &mut [u8], at: usize)
 }
 
 // Turns a FASTA text and an epsilon into a job block at the front of the memory lent.
-pub fn make_job(text: &[u8], epsilon: u16, job: &mut [u8]) -> Made
-    ensures { λ r. ⌜ Turned (now (text .entry)) epsilon (length (now (job .entry))) (now (job .exit)) r ⌝ }
+pub fn make_job(text: &[u8], epsilon: u16, job: &mut [u8]) -> Conversion
+    ensures { λ r. ⌜ Converted (now (text .entry)) epsilon (length (now (job .entry))) (now (job .exit)) r ⌝ }
 {
     clear_bytes(job);
-    if job.len() < 16524 {
-        return Made::Short;
+    if job.len() < LARGEST_JOB {
+        return Conversion::Short;
     }
-    let size = measure(text);
+    let size = size_of_job(text);
     let answer = size.answer;
-    let told = tell_made(answer);
+    let told = tell_conversion(answer);
     if told.number != 0 {
         return answer;
     }
     let rows = size.rows;
     let width = size.width;
-    let states = 12 + 2 * width;
+    let states = JOB_HEAD + 2 * width;
     let used = states + rows * width;
-    put_head(rows, width, epsilon as usize, job);
+    put_job_header(rows, width, epsilon as usize, job);
     put_weights(width, job);
     put_states(text, job, states);
-    Made::Done { used }
+    Conversion::Done { used }
 }

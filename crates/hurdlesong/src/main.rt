@@ -6,7 +6,10 @@ ghost use Prim.Native.Nat.{_≤_};
 ghost use lib.ListN.{length};
 use memory::copy;
 use rules::Answer;
+use rules::LARGEST_JOB;
+use rules::RESULT_AREA;
 use service::answer_job;
+use text::TEXT_ROOM;
 use text::brief;
 use text::tell_text;
 
@@ -44,13 +47,13 @@ fn print_middle<'a>(job: &'a [u8], block: &'a [u8], answer: Answer) -> bool {
 
 // So much is enough for every text.
 fn print_long<'a>(job: &'a [u8], block: &'a [u8], answer: Answer) -> bool {
-    let mut out = [0u8; 172718];
+    let mut out = [0u8; TEXT_ROOM];
     print_in(job, block, answer, &mut out)
 }
 
 // A job is answered, and the answer printed.
 fn answer(job: &[u8]) {
-    let mut result = [0u8; 57680];
+    let mut result = [0u8; RESULT_AREA];
     let answer = answer_job(job, &mut result);
     if !print_short(job, &result, answer) && !print_middle(job, &result, answer) {
         print_long(job, &result, answer);
@@ -70,7 +73,7 @@ fn read_on(front: &[u8], job: &mut [u8]) -> usize
 
 // A byte more than the largest job is read, so that a longer one is refused.
 fn answer_long(front: &[u8; 2047]) {
-    let mut job = [0u8; 16525];
+    let mut job = [0u8; LARGEST_JOB + 1];
     let n = read_on(front, &mut job);
     answer(&job[0..n]);
 }

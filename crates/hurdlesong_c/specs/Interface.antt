@@ -15,7 +15,7 @@ use Rattle.answers.specs.Told.{ToldOf}
 use Rattle.answers.specs.declared.Told.{Told}
 use Rattle.text.specs.Printed.{textRoom, refusalOf, printedBytes, ToldText}
 use Rattle.text.specs.declared.Printed.{Printed}
-use Rattle.text.specs.declared.Printed.the-variants.{Done, Room, Block}
+use Rattle.text.specs.declared.Printed.the-variants.{Done, Short, Block}
 use Rattle.network.specs.Called.{lentBy, Called}
 
 -- The call's own promise, with the answer of the rules, and what is told of that answer.
@@ -30,7 +30,7 @@ textBy job block n at = cond (eqb n 0) (networkText (readBack job block)) (refus
 -- 80 where the memory lent is shorter; then 81 where a network is to be printed and the block is not one of this job.
 abbrev pub printedBy : ℕ → Bytes → Bytes → ℕ → ℕ → Printed
 printedBy lent job block n at =
-    cond (ltb lent textRoom) Room (cond (eqb n 0 && not (legible job block)) Block (Done (length (textBy job block n at))))
+    cond (ltb lent textRoom) Short (cond (eqb n 0 && not (legible job block)) Block (Done (length (textBy job block n at))))
 
 pub record TextTold (job block : Bytes) (n at lent : ℕ) (out : Bytes) (r : Told) : Type 0 where
   pub told : ToldText (printedBy lent job block n at) r

@@ -9,7 +9,8 @@ ghost use Rattle.hurdlesong_fasta.specs.Fits.{Fits};
 use memory::copy;
 use memory::numerals::Numeral;
 use memory::numerals::read_number;
-use service::fasta_service::answer_fasta;
+use service::from_fasta::answer_fasta;
+use text::TEXT_ROOM;
 
 // What came of reading a text: all of it, so many bytes; as much as there is room for; or a read that failed.
 enum Input {
@@ -62,7 +63,7 @@ fn read_text(fd: i32, text: &mut [u8], from: usize) -> Input
 
 // The network of a text, in memory for the longest text of an answer.
 fn answer(text: &[u8], epsilon: u16) {
-    let mut out = [0u8; 172718];
+    let mut out = [0u8; TEXT_ROOM];
     let used = answer_fasta(text, epsilon, &mut out);
     print(&out[0..used]);
 }

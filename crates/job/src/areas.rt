@@ -1,23 +1,27 @@
-// The room of the lent lengths: the refusal 1. It touches no memory.
+// The corner of the lent lengths: the refusal 1. It touches no memory.
 
 ghost use mathlib.Core.Path.{_≡_};
 ghost use Rattle.job.specs.Areas.{lengths, areasAnswer};
 use rules::Answer;
+use rules::DISTANCE_AREA;
+use rules::MOST_LINKS;
+use rules::RESULT_AREA;
+use rules::STATE_AREA;
 
 // Check 1: no lent area is shorter than document 01 asks.
 pub fn check_areas(result: usize, states: usize, distances: usize, links: usize) -> Answer
     ensures { λ r. ⌜ r ≡ areasAnswer (lengths result states distances links) ⌝ }
 {
-    if result < 57680 {
+    if result < RESULT_AREA {
         return Answer::Area;
     }
-    if states < 8192 {
+    if states < STATE_AREA {
         return Answer::Area;
     }
-    if distances < 16384 {
+    if distances < DISTANCE_AREA {
         return Answer::Area;
     }
-    if links < 8128 {
+    if links < MOST_LINKS {
         return Answer::Area;
     }
     Answer::Done { used: 0 }

@@ -1,12 +1,17 @@
-// The room of a job's contents: the refusals 6 and 7, of a job whose size and layout are right. The job is only read.
+// The corner of a job's contents: the refusals 6 and 7, of a job whose size and layout are right. The job is only read.
 
 ghost use mathlib.Core.Path.{_≡_};
 ghost use Prim.Native.Nat.{_+_, _*_, _≤_};
 ghost use lib.ListN.{length};
+ghost use Rattle.rules.specs.Sizes.{mostWidth, jobHead};
 ghost use Rattle.rules.specs.Job.{rows, width, outside, badWeight, badState, checked};
 ghost use Rattle.job.specs.Stages.{LaidOut};
 use memory::word_at;
 use rules::Answer;
+use rules::FIRST_STATE;
+use rules::JOB_HEAD;
+use rules::LAST_STATE;
+use rules::MOST_WEIGHT;
 
 // A number outside its bounds.
 pub fn outside(low: usize, high: usize, x: usize) -> bool
@@ -17,12 +22,12 @@ pub fn outside(low: usize, high: usize, x: usize) -> bool
 
 // The first column whose weight is 0 or over 1,000, or the width where there is none.
 fn bad_weight(job: &[u8], m: usize) -> usize
-    requires { ⌜ (m ≡ width (now job)) × (m ≤ 64) × (12 + 2 * m ≤ length (now job)) ⌝ }
+    requires { ⌜ (m ≡ width (now job)) × (m ≤ mostWidth) × (jobHead + 2 * m ≤ length (now job)) ⌝ }
     ensures { λ r. ⌜ r ≡ badWeight (now (job .entry)) ⌝ }
 {
     let mut c = 0;
     while c < m {
-        if outside(1, 1000, word_at(job, 12 + 2 * c)) {
+        if outside(1, MOST_WEIGHT, word_at(job, JOB_HEAD + 2 * c)) {
             return c;
         }
         c += 1;
@@ -32,16 +37,16 @@ fn bad_weight(job: &[u8], m: usize) -> usize
 
 // The first place in row order whose state is outside 33 to 126, counted over all states, or their number where there is none.
 fn bad_state(job: &[u8], n: usize, m: usize) -> usize
-    requires { ⌜ (n ≡ rows (now job)) × (m ≡ width (now job)) × (length (now job) ≡ 12 + 2 * m + n * m) ⌝ }
+    requires { ⌜ (n ≡ rows (now job)) × (m ≡ width (now job)) × (length (now job) ≡ jobHead + 2 * m + n * m) ⌝ }
     ensures { λ r. ⌜ r ≡ badState (now (job .entry)) ⌝ }
 {
-    let first = 12 + 2 * m;
+    let first = JOB_HEAD + 2 * m;
     let mut place = 0;
     let mut row = 0;
     'rows: while row < n {
         let mut column = 0;
         while column < m {
-            if outside(33, 126, job[first + place] as usize) {
+            if outside(FIRST_STATE, LAST_STATE, job[first + place] as usize) {
                 break 'rows;
             }
             place += 1;

@@ -13,7 +13,7 @@ use Rattle.graph.specs.Spans.{spans, feasible}
 use Rattle.graph.proofs.Below.{sum-more}
 use Rattle.graph.proofs.Feasibility.{feasible-back}
 use Rattle.graph.proofs.Spans.{feasible-is}
-use Rattle.distances.specs.Area.{cellAt, Written, Line}
+use Rattle.distances.specs.Area.{cellAt, CellsWritten, Line}
 use Rattle.distances.proofs.Area.{Asked, Narrow, cell-kept, line-more, written-as, written-both, written-more, written-once}
 use Rattle.spans.specs.Tree.{between, mirrored, Mirror, opposite, Spanned}
 use Rattle.spans.proofs.Turns.{mirror-more}
@@ -21,22 +21,22 @@ use Rattle.spans.proofs.Growing.{between-sym}
 use Rattle.links.specs.Marks.{markCount, mark, LinksFound}
 
 -- It is the mark it was while the cell was not written.
-mark-kept : {asked : Asked} {f : ℕ → ℕ → ℕ} {before after : List ℕ} → Written asked f before after → Narrow asked → (e : ℕ)
+mark-kept : {asked : Asked} {f : ℕ → ℕ → ℕ} {before after : List ℕ} → CellsWritten asked f before after → Narrow asked → (e : ℕ)
     (spans : List ℕ) (i j : ℕ) → j < 128 → ¬ asked i j → mark e spans after i j ≡ mark e spans before i j
 mark-kept w narrow e spans i j h n = rw (cell-kept w narrow i j h n)
 
 -- One cell more of a line.
 pub cell-marked : (e i j v : ℕ) (spans before : List ℕ) {area : List ℕ} → i < j → j < 128 → 16384 ≤ length before →
-    Written (Line j i) (mark e spans before) before area → v ≡ mark e spans area j i →
-    Written (Line j (i + 1)) (mark e spans before) before (set area (128 * j + i) v)
+    CellsWritten (Line j i) (mark e spans before) before area → v ≡ mark e spans area j i →
+    CellsWritten (Line j (i + 1)) (mark e spans before) before (set area (128 * j + i) v)
 cell-marked e i j v spans before h l room w m =
     let kept = mark-kept w (λ a b t. omega arith) e spans j i (omega arith) (λ t. omega arith) in
     written-more w (λ a b t. omega arith) j i v (line-more j i) (omega arith) (m ∙ kept)
 
 -- One line more.
 pub line-marked : (e j : ℕ) (spans before : List ℕ) {mid after : List ℕ} → j < 128 →
-    Written (Mirror j) (mark e spans before) before mid → Written (Line j j) (mark e spans mid) mid after →
-    Written (Mirror (j + 1)) (mark e spans before) before after
+    CellsWritten (Mirror j) (mark e spans before) before mid → CellsWritten (Line j j) (mark e spans mid) mid after →
+    CellsWritten (Mirror (j + 1)) (mark e spans before) before after
 line-marked e j spans before h w x =
     let narrow : Narrow (Mirror j) = λ a b t. omega arith in
     let line = written-as x (λ a b. (λ t. t, λ t. t)) (λ a b t. mark-kept w narrow e spans a b (omega arith) (λ u. omega arith)) in
@@ -48,8 +48,8 @@ tells true e = ((λ u. refl, λ u. e), omega arith)
 tells false e = ((λ u. absurd (omega arith), λ u. absurd (false≢true u)), omega arith)
 
 -- The links are found by writing the distances and then the marks to the mirror cells, since those tell the test of each link.
-module _ (n e : ℕ) (before : List ℕ) {start spans′ mid after : List ℕ} (h : n ≤ 128) (w : Written (Mirror n) (opposite before) before mid)
-    (s : Spanned n before start spans′) (x : Written (Mirror n) (mark e spans′ mid) mid after) where
+module _ (n e : ℕ) (before : List ℕ) {start spans′ mid after : List ℕ} (h : n ≤ 128) (w : CellsWritten (Mirror n) (opposite before) before mid)
+    (s : Spanned n before start spans′) (x : CellsWritten (Mirror n) (mark e spans′ mid) mid after) where
   tested : (i j : ℕ) → i < j → j < n →
       ((cellAt after j i ≡ 1) ↔ (feasible (between before) (spans n (between before)) e j i ≡ true)) × (cellAt after j i ≤ 1)
   tested i j l r =
@@ -78,7 +78,7 @@ same-mark {v} {u} f g h l = elim (ℕ-discrete v 1) [
 
 -- What two who find the links leave is equal.
 module _ {n e : ℕ} {before : List ℕ} where
-  found-written : {a b : List ℕ} → LinksFound n e before a → LinksFound n e before b → Written (Mirror n) (cellAt b) before a
+  found-written : {a b : List ℕ} → LinksFound n e before a → LinksFound n e before b → CellsWritten (Mirror n) (cellAt b) before a
   found-written p q = record {
     size = p .size;
     holds = λ i j t.

@@ -18,7 +18,7 @@ use Rattle.rules.proofs.Distance.{apart-sym}
 use Rattle.rules.proofs.Links.{feasible-sym, linked-is, link-count}
 use Rattle.distances.specs.Area.{Measures}
 use Rattle.spans.specs.Tree.{between, mirrored}
-use Rattle.links.specs.Marks.{marked, markCount, LinksFound, Tells}
+use Rattle.links.specs.Marks.{marked, markCount, LinksFound, TellsLinks}
 
 module _ (ws : List ℕ) (e : ℕ) (rs : List Row) (few : length rs ≤ 128) where
   abbrev n : ℕ
@@ -39,7 +39,7 @@ module _ (ws : List ℕ) (e : ℕ) (rs : List Row) (few : length rs ≤ 128) whe
           rw (lo, hi) (measures b a (omega arith) ha ∙ apart-sym ws rs b a)
     ]
 
-    pub told : Tells ws e rs after
+    pub told : TellsLinks ws e rs after
     told = record {
       linked = λ i j h l.
           let hi : i < n = omega arith in
@@ -51,7 +51,7 @@ module _ (ws : List ℕ) (e : ℕ) (rs : List Row) (few : length rs ≤ 128) whe
       or-not = found .or-not;
     }
 
-  module _ {area : List ℕ} (tells : Tells ws e rs area) where
+  module _ {area : List ℕ} (tells : TellsLinks ws e rs area) where
     told-at : (i j : ℕ) → i < n → j < n → i ≢ j → (getD area (mirrored i j) 0 ≡ 1) ↔ FeasibleLink ws e rs i j
     told-at i j hi hj ne = elim (decLt i j) [
       | yes h ↦ let lo : min i j ≡ i = omega arith in

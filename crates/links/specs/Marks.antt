@@ -8,6 +8,7 @@ use lib.Dec.{eqb, leb}
 use lib.ListN.{length, getD}
 use Rattle.graph.specs.Below.{count}
 use Rattle.graph.specs.Feasible.{Feasible}
+use Rattle.rules.specs.Sizes.{lineSize}
 use Rattle.rules.specs.Job.{Row}
 use Rattle.rules.specs.Links.{FeasibleLink}
 use Rattle.distances.specs.Area.{cellAt}
@@ -33,9 +34,9 @@ pub record LinksFound (n e : ℕ) (before after : List ℕ) : Type 0 where
   pub size : length after ≡ length before
   pub linked : (i j : ℕ) → i < j → j < n → (cellAt after j i ≡ 1) ↔ Feasible n (between before) e i j
   pub or-not : (i j : ℕ) → i < j → j < n → cellAt after j i ≤ 1
-  pub kept : (p : ℕ) → ((i j : ℕ) → i < j → j < n → p ≢ 128 * j + i) → getD after p 0 ≡ getD before p 0
+  pub kept : (p : ℕ) → ((i j : ℕ) → i < j → j < n → p ≢ lineSize * j + i) → getD after p 0 ≡ getD before p 0
 
 -- The area tells the links of rows at epsilon.
-pub record Tells (ws : List ℕ) (e : ℕ) (rs : List Row) (area : List ℕ) : Type 0 where
+pub record TellsLinks (ws : List ℕ) (e : ℕ) (rs : List Row) (area : List ℕ) : Type 0 where
   pub linked : (i j : ℕ) → i < j → j < length rs → (cellAt area j i ≡ 1) ↔ FeasibleLink ws e rs i j
   pub or-not : (i j : ℕ) → i < j → j < length rs → cellAt area j i ≤ 1

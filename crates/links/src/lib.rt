@@ -6,9 +6,12 @@ ghost use mathlib.Core.Bool.{cond};
 ghost use Prim.Native.Nat.{_+_, _*_, _≤_, _<_};
 ghost use lib.Dec.{eqb};
 ghost use lib.ListN.{length};
-ghost use Rattle.distances.specs.Area.{Written, Line};
+ghost use Rattle.rules.specs.Sizes.{mostTypes, lineSize, distanceArea};
+ghost use Rattle.distances.specs.Area.{CellsWritten, Line};
 ghost use Rattle.spans.specs.Tree.{Mirror};
 ghost use Rattle.links.specs.Marks.{marked, markCount, markOf, mark, LinksFound};
+use rules::DISTANCE_AREA;
+use rules::LINE;
 use spans::mirrored;
 use spans::spans;
 
@@ -27,10 +30,10 @@ fn mark_of(distance: u16, span: u16, epsilon: u16) -> u16
 
 // The marks of type j and the types before it.
 fn mark_line(area: &mut [u16], spans: &[u16], epsilon: usize, j: usize)
-    requires { ⌜ (epsilon ≤ 65535) × (j < 128) × (16384 ≤ length (now area)) × (128 * j + 128 ≤ length (now spans)) ⌝ }
-    ensures { λ _. ⌜ Written (Line j j) (mark epsilon (now (spans .entry)) (now (area .entry))) (now (area .entry)) (now (area .exit)) ⌝ }
+    requires { ⌜ (epsilon ≤ 65535) × (j < mostTypes) × (distanceArea ≤ length (now area)) × (lineSize * j + lineSize ≤ length (now spans)) ⌝ }
+    ensures { λ _. ⌜ CellsWritten (Line j j) (mark epsilon (now (spans .entry)) (now (area .entry))) (now (area .entry)) (now (area .exit)) ⌝ }
 {
-    let from = 128 * j;
+    let from = LINE * j;
     let mut i = 0;
     while i < j {
         area[from + i] = mark_of(area[from + i], spans[from + i], epsilon as u16);
@@ -40,8 +43,8 @@ fn mark_line(area: &mut [u16], spans: &[u16], epsilon: usize, j: usize)
 
 // The marks of n types whose mirror cells hold their distances.
 fn mark(area: &mut [u16], spans: &[u16], n: usize, epsilon: usize)
-    requires { ⌜ (epsilon ≤ 65535) × (n ≤ 128) × (16384 ≤ length (now area)) × (128 * n ≤ length (now spans)) ⌝ }
-    ensures { λ _. ⌜ Written (Mirror n) (mark epsilon (now (spans .entry)) (now (area .entry))) (now (area .entry)) (now (area .exit)) ⌝ }
+    requires { ⌜ (epsilon ≤ 65535) × (n ≤ mostTypes) × (distanceArea ≤ length (now area)) × (lineSize * n ≤ length (now spans)) ⌝ }
+    ensures { λ _. ⌜ CellsWritten (Mirror n) (mark epsilon (now (spans .entry)) (now (area .entry))) (now (area .entry)) (now (area .exit)) ⌝ }
 {
     let mut j = 0;
     while j < n {
@@ -52,7 +55,7 @@ fn mark(area: &mut [u16], spans: &[u16], n: usize, epsilon: usize)
 
 // The links of n types at epsilon, by their spans.
 fn link(area: &mut [u16], all: &mut [u16], n: usize, epsilon: usize)
-    requires { ⌜ (epsilon ≤ 65535) × (n ≤ 128) × (16384 ≤ length (now area)) × (128 * n ≤ length (now all)) ⌝ }
+    requires { ⌜ (epsilon ≤ 65535) × (n ≤ mostTypes) × (distanceArea ≤ length (now area)) × (lineSize * n ≤ length (now all)) ⌝ }
     ensures { λ _. ⌜ LinksFound n epsilon (now (area .entry)) (now (area .exit)) ⌝ }
 {
     spans(area, all, n);
@@ -61,21 +64,21 @@ fn link(area: &mut [u16], all: &mut [u16], n: usize, epsilon: usize)
 
 // The links of n types at epsilon. The spans of few types get little room: what it holds at first does not matter, but is written.
 pub fn find_links(area: &mut [u16], n: usize, epsilon: usize)
-    requires { ⌜ (epsilon ≤ 65535) × (n ≤ 128) × (16384 ≤ length (now area)) ⌝ }
+    requires { ⌜ (epsilon ≤ 65535) × (n ≤ mostTypes) × (distanceArea ≤ length (now area)) ⌝ }
     ensures { λ _. ⌜ LinksFound n epsilon (now (area .entry)) (now (area .exit)) ⌝ }
 {
     if n <= 16 {
         let mut few = [256u16; 2048];
         link(area, &mut few, n, epsilon);
     } else {
-        let mut all = [256u16; 16384];
+        let mut all = [256u16; DISTANCE_AREA];
         link(area, &mut all, n, epsilon);
     }
 }
 
 // Whether two types are linked.
 pub fn linked(area: &[u16], i: usize, j: usize) -> bool
-    requires { ⌜ (i < 128) × (j < 128) × (16384 ≤ length (now area)) ⌝ }
+    requires { ⌜ (i < mostTypes) × (j < mostTypes) × (distanceArea ≤ length (now area)) ⌝ }
     ensures { λ r. ⌜ r ≡ marked (now (area .entry)) i j ⌝ }
 {
     i != j && area[mirrored(i, j)] == 1
@@ -90,10 +93,10 @@ fn one(mark: u16) -> u16
 
 // How many of the first n types are linked with type i, none of which is behind it: their marks stand in its line.
 fn links_before(area: &[u16], n: usize, i: usize) -> u16
-    requires { ⌜ (n ≤ i) × (i < 128) × (16384 ≤ length (now area)) ⌝ }
+    requires { ⌜ (n ≤ i) × (i < mostTypes) × (distanceArea ≤ length (now area)) ⌝ }
     ensures { λ r. ⌜ r ≡ markCount (now (area .entry)) n i ⌝ }
 {
-    let from = 128 * i;
+    let from = LINE * i;
     let mut links = 0;
     let mut j = 0;
     while j < n {
@@ -105,14 +108,14 @@ fn links_before(area: &[u16], n: usize, i: usize) -> u16
 
 // How many of n types are linked with type i. The marks of the types behind it stand in its column.
 pub fn link_count(area: &[u16], n: usize, i: usize) -> usize
-    requires { ⌜ (n ≤ 128) × (i < 128) × (16384 ≤ length (now area)) ⌝ }
+    requires { ⌜ (n ≤ mostTypes) × (i < mostTypes) × (distanceArea ≤ length (now area)) ⌝ }
     ensures { λ r. ⌜ r ≡ markCount (now (area .entry)) n i ⌝ }
 {
     let before = if i < n { i } else { n };
     let mut links = links_before(area, before, i);
     let mut j = i + 1;
     while j < n {
-        links += one(area[128 * j + i]);
+        links += one(area[LINE * j + i]);
         j += 1;
     }
     links as usize

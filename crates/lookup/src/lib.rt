@@ -12,6 +12,9 @@ ghost use Rattle.lookup.specs.Match.{matches};
 ghost use Rattle.lookup.specs.Places.{Points};
 use crate::matching::block_matches;
 use memory::word_at;
+use rules::JOB_HEAD;
+use rules::RECORD_SIZE;
+use rules::RECORDS_OFFSET;
 
 // Where the states of a type lie: in the job (1), in the result block (2) or nowhere (0); from which byte on; how many.
 #[repr(C)]
@@ -38,12 +41,12 @@ fn place_in(job: &[u8], block: &[u8], number: usize) -> Place
     if t <= number {
         return NOWHERE;
     }
-    let place = word_at(block, 16 + 6 * number + 2);
+    let place = word_at(block, RECORDS_OFFSET + RECORD_SIZE * number + 2);
     if number < s {
         if word_at(job, 0) <= place {
             return NOWHERE;
         }
-        let at = 12 + 2 * m + place * m;
+        let at = JOB_HEAD + 2 * m + place * m;
         return Place {
             source: 1,
             at,
@@ -53,7 +56,7 @@ fn place_in(job: &[u8], block: &[u8], number: usize) -> Place
     if t - s <= place {
         return NOWHERE;
     }
-    let at = 16 + 6 * t + place * m;
+    let at = RECORDS_OFFSET + RECORD_SIZE * t + place * m;
     Place {
         source: 2,
         at,

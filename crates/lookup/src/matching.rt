@@ -1,4 +1,4 @@
-// The room of matching: whether a result block is one of a job, by its header. Any job and any block may be asked about, damaged ones
+// The corner of matching: whether a result block is one of a job, by its header. Any job and any block may be asked about, damaged ones
 // too. It alters nothing.
 
 ghost use mathlib.Core.Path.{_≡_};
@@ -8,24 +8,27 @@ ghost use Rattle.lookup.specs.Match.{matches};
 use answers::tell;
 use job::checks::check;
 use memory::word_at;
+use rules::MOST_TYPES;
+use rules::RECORD_SIZE;
+use rules::RECORDS_OFFSET;
 
 // The header of a result block of width m, and that the block reaches to the links' offset.
 fn header_fits(block: &[u8], m: usize) -> bool
     requires { ⌜ m ≤ 65535 ⌝ }
     ensures { λ r. ⌜ r ≡ headerFits m (now (block .entry)) (typesIn (now (block .entry))) (sampledTypes (now (block .entry))) ⌝ }
 {
-    if block.len() < 16 {
+    if block.len() < RECORDS_OFFSET {
         return false;
     }
     let t = word_at(block, 0);
     let s = word_at(block, 2);
-    if s < 1 || t < s || 128 < t {
+    if s < 1 || t < s || MOST_TYPES < t {
         return false;
     }
-    let rows = 16 + 6 * t;
+    let rows = RECORDS_OFFSET + RECORD_SIZE * t;
     let links = rows + (t - s) * m;
     if word_at(block, 4) != m
-        || word_at(block, 10) != 16
+        || word_at(block, 10) != RECORDS_OFFSET
         || word_at(block, 12) != rows
         || word_at(block, 14) != links
     {

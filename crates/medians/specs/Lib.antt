@@ -1,4 +1,4 @@
 pub mod Cost
-pub mod Known
+pub mod Guesses
 pub mod Search
 pub mod Swept

@@ -5,6 +5,7 @@ use mathlib.Core.Bool.{true, false}
 use mathlib.Core.List.{List}
 use Prim.Native.Nat.{ℕ, _+_, _*_, _≤_, _<_}
 use lib.ListN.{length, getD}
+use Rattle.rules.specs.Sizes.{mostTypes, rowSize}
 use Rattle.rules.specs.Job.{Bytes}
 use Rattle.rules.specs.Types.{rowAt}
 use Rattle.rules.specs.Median.{medians, connection}
@@ -27,43 +28,43 @@ pub record Gives (ws : List ℕ) (states : Bytes) (made : ℕ) (t : Triplet) (x 
 abbrev pub GivesRow : List ℕ → Bytes → ℕ → Triplet → Bytes → Bytes → ℕ → Type 0
 GivesRow ws states made t row x cost = (x ≡ row) × Gives ws states made t x cost
 
--- A row at a cost is dealt with: its cost does not matter, or it is among those found.
+-- A row at a cost is dealt with: its cost does not matter, or it is among those gathered.
 abbrev pub Dealt : Bytes → Search → Bytes → ℕ → Type 0
-Dealt found s x cost = (s .below ≤ cost) ⊎ ((k : ℕ) × (k < s .count) × (storedAt found k ≡ x))
+Dealt gathered s x cost = (s .below ≤ cost) ⊎ ((k : ℕ) × (k < s .count) × (storedAt gathered k ≡ x))
 
--- There is no room: as many were made and found as can be, and here is one more, of a cost that mattered.
-pub record Crowd (given : Bytes → ℕ → Type 0) (bound : ℕ) (found : Bytes) (s : Search) : Type 0 where
+-- There is no room: as many were made and gathered as can be, and here is one more, of a cost that mattered.
+pub record Crowd (given : Bytes → ℕ → Type 0) (bound : ℕ) (gathered : Bytes) (s : Search) : Type 0 where
   pub closed : s .below ≡ 0
-  pub all-used : s .made + s .count ≡ 128
+  pub all-used : s .made + s .count ≡ mostTypes
   pub row : Bytes
   pub cost : ℕ
   pub is-given : given row cost
   pub matters : cost < bound
-  pub another : (k : ℕ) → k < s .count → storedAt found k ≢ row
+  pub another : (k : ℕ) → k < s .count → storedAt gathered k ≢ row
 
 -- Looking for lambda: the cost looked for is as before, or that of a row given.
 abbrev pub Lowered : (Bytes → ℕ → Type 0) → Search → Search → Type 0
 Lowered given s s′ = (s′ .below ≡ s .below) ⊎ ((x : Bytes) × given x (s′ .below))
 
--- Gathering: the rows found before stay, and each one more is given at a cost that matters and is no other's row.
-pub record Gathered (given : Bytes → ℕ → Type 0) (found : Bytes) (s : Search) (found′ : Bytes) (s′ : Search) : Type 0 where
+-- Gathering: the rows gathered before stay, and each one more is given at a cost that matters and is no other's row.
+pub record Gathered (given : Bytes → ℕ → Type 0) (gathered : Bytes) (s : Search) (found′ : Bytes) (s′ : Search) : Type 0 where
   pub no-fewer : s .count ≤ s′ .count
-  pub older : (k : ℕ) → k < s .count → storedAt found′ k ≡ storedAt found k
+  pub older : (k : ℕ) → k < s .count → storedAt found′ k ≡ storedAt gathered k
   pub newer : (k : ℕ) → s .count ≤ k → k < s′ .count → (cost : ℕ) × given (storedAt found′ k) cost × (cost < s .below)
   pub differ : (i k : ℕ) → i < k → s .count ≤ k → k < s′ .count → storedAt found′ i ≢ storedAt found′ k
   pub still-open : s′ .full ≡ false → (s .full ≡ false) × (s′ .below ≡ s .below)
   pub crowd : s .full ≡ false → s′ .full ≡ true → Crowd given (s .below) found′ s′
 
--- Every row asked for is dealt with, and whatever the search has come to, it has from rows given. Behind the rows found nothing changes.
-pub record Swept (asked given : Bytes → ℕ → Type 0) (found : Bytes) (s : Search) (found′ : Bytes) (s′ : Search) : Type 0 where
-  pub size : length found′ ≡ length found
-  pub rest-stays : (p : ℕ) → 64 * s′ .count ≤ p → getD found′ p 0 ≡ getD found p 0
+-- Every row asked for is dealt with, and whatever the search has come to, it has from rows given. Behind the rows gathered nothing changes.
+pub record Swept (asked given : Bytes → ℕ → Type 0) (gathered : Bytes) (s : Search) (found′ : Bytes) (s′ : Search) : Type 0 where
+  pub size : length found′ ≡ length gathered
+  pub rest-stays : (p : ℕ) → rowSize * s′ .count ≤ p → getD found′ p 0 ≡ getD gathered p 0
   pub made-stays : s′ .made ≡ s .made
   pub aim-stays : s′ .gathering ≡ s .gathering
-  pub room : s′ .made + s′ .count ≤ 128
+  pub room : s′ .made + s′ .count ≤ mostTypes
   pub no-higher : s′ .below ≤ s .below
   pub deals : (x : Bytes) (cost : ℕ) → asked x cost → Dealt found′ s′ x cost
-  pub keeps : (x : Bytes) (cost : ℕ) → Dealt found s x cost → Dealt found′ s′ x cost
+  pub keeps : (x : Bytes) (cost : ℕ) → Dealt gathered s x cost → Dealt found′ s′ x cost
   pub count-stays : s .gathering ≡ false → s′ .count ≡ s .count
   pub lowers : s .gathering ≡ false → Lowered given s s′
-  pub gathers : s .gathering ≡ true → Gathered given found s found′ s′
+  pub gathers : s .gathering ≡ true → Gathered given gathered s found′ s′

@@ -1,19 +1,26 @@
-// The room of the search: a median vector of a triplet is looked at, either for lambda, the least cost of any candidate, or to gather
-// all candidates below a cost. It reads the state area; the rows found lie behind each other in memory of their own.
+// The corner of the search: a median vector of a triplet is looked at, either for lambda, the least cost of any candidate, or to gather
+// all candidates below a cost. It reads the state area; the rows gathered lie behind each other in memory of their own.
 
 ghost use mathlib.Core.Path.{_≡_};
 ghost use Prim.Native.Nat.{_+_, _*_, _≤_, _<_};
 ghost use lib.ListN.{length};
+ghost use Rattle.medians.specs.Guesses.{guessesSize};
+ghost use Rattle.rules.specs.Sizes.{mostTypes, stateArea};
 ghost use Rattle.distances.specs.Area.{Weighed};
-ghost use Rattle.medians.specs.Search.{forLambda, forAll, lowered, filled, withOne, taken, foundAfter, Inside};
+ghost use Rattle.medians.specs.Search.{forLambda, forAll, lowered, filled, withOne, taken, gatheredAfter, Inside};
 ghost use Rattle.medians.specs.Swept.{Gives, IsMedian, GivesRow, Swept};
 use crate::connection;
-use crate::known::guessed;
-use crate::known::known;
+use crate::guesses::guessed;
+use crate::guesses::is_known;
 use memory::copy;
+use rules::MOST_TYPES;
+use rules::ROW;
 use triplets::Triplet;
 
-// A search: only costs below this matter; so many rows were made, and so many candidates found since. When candidates are gathered
+// No connection cost is above 128,000.
+const ABOVE_ALL_COSTS: usize = 128001;
+
+// A search: only costs below this matter; so many rows were made, and so many candidates gathered since. When candidates are gathered
 // and no room is left for one more, the search is full and looks for nothing more.
 pub struct Search {
     pub below: usize,
@@ -29,7 +36,7 @@ impl Search {
         ensures { λ r. ⌜ r ≡ forLambda made ⌝ }
     {
         Search {
-            below: 128001,
+            below: ABOVE_ALL_COSTS,
             made,
             count: 0,
             gathering: false,
@@ -67,9 +74,9 @@ impl Search {
         self
     }
 
-    // One more was found.
+    // One more was gathered.
     fn with_one(mut self) -> Self
-        requires { ⌜ self .count ≤ 128 ⌝ }
+        requires { ⌜ self .count ≤ mostTypes ⌝ }
         ensures { λ r. ⌜ r ≡ withOne self ⌝ }
     {
         self.count += 1;
@@ -77,17 +84,17 @@ impl Search {
     }
 }
 
-// A candidate of a cost that matters is met: it lowers the cost looked for, or is put behind those found.
-fn take(found: &mut [u8], search: Search, row: &[u8; 64], cost: usize) -> Search
-    requires { ⌜ (search .made + search .count ≤ 128) × (length (now found) ≡ 8192) ⌝ }
-    ensures { λ r. ⌜ (r ≡ taken search cost) × (now (found .exit) ≡ foundAfter (now (found .entry)) search (now (row .entry))) ⌝ }
+// A candidate of a cost that matters is met: it lowers the cost looked for, or is put behind those gathered.
+fn take(gathered: &mut [u8], search: Search, row: &[u8; ROW], cost: usize) -> Search
+    requires { ⌜ (search .made + search .count ≤ mostTypes) × (length (now gathered) ≡ stateArea) ⌝ }
+    ensures { λ r. ⌜ (r ≡ taken search cost) × (now (gathered .exit) ≡ gatheredAfter (now (gathered .entry)) search (now (row .entry))) ⌝ }
 {
     if !search.gathering {
         search.lowered(cost)
-    } else if search.made + search.count == 128 {
+    } else if search.made + search.count == MOST_TYPES {
         search.filled()
     } else {
-        copy(row, found, 64 * search.count);
+        copy(row, gathered, ROW * search.count);
         search.with_one()
     }
 }
@@ -96,26 +103,26 @@ fn take(found: &mut [u8], search: Search, row: &[u8; 64], cost: usize) -> Search
 pub fn consider(
     states: &[u8],
     weights: &[u16],
-    found: &mut [u8],
+    gathered: &mut [u8],
     guesses: &mut [u16],
     search: Search,
     t: Triplet,
-    row: &[u8; 64],
+    row: &[u8; ROW],
 ) -> Search
-    requires { ⌜ Weighed (now weights) × Inside (now states) search t × IsMedian (now states) t (now row) × (length (now found) ≡ 8192) × (length (now guesses) ≡ 4096) ⌝ }
-    ensures { λ r. ⌜ (length (now (guesses .exit)) ≡ 4096)
+    requires { ⌜ Weighed (now weights) × Inside (now states) search t × IsMedian (now states) t (now row) × (length (now gathered) ≡ stateArea) × (length (now guesses) ≡ guessesSize) ⌝ }
+    ensures { λ r. ⌜ (length (now (guesses .exit)) ≡ guessesSize)
         × Swept (GivesRow (now (weights .entry)) (now (states .entry)) (search .made) t (now (row .entry)))
-        (Gives (now (weights .entry)) (now (states .entry)) (search .made) t) (now (found .entry)) search (now (found .exit)) r ⌝ }
+        (Gives (now (weights .entry)) (now (states .entry)) (search .made) t) (now (gathered .entry)) search (now (gathered .exit)) r ⌝ }
 {
-    if guessed(states, search.made, found, search.count, guesses, row) {
+    if guessed(states, search.made, gathered, search.count, guesses, row) {
         return search;
     }
     let cost = connection(states, weights, t.u, t.v, t.w);
     if search.below <= cost {
         return search;
     }
-    if known(states, search.made, found, search.count, guesses, row) {
+    if is_known(states, search.made, gathered, search.count, guesses, row) {
         return search;
     }
-    take(found, search, row, cost)
+    take(gathered, search, row, cost)
 }

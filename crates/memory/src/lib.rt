@@ -1,7 +1,7 @@
 // The room of lent memory: numbers of 16 bits in bytes, eight bytes at once, clearing to the end, copying into a part. Leaf code: every other room
 // reads and writes through it, and it knows nothing of jobs or types.
 
-pub mod lines;
+pub mod decimals;
 pub mod numerals;
 
 ghost use mathlib.Core.Path.{_≡_};
@@ -42,6 +42,16 @@ pub fn put_word(b: &mut [u8], i: usize, x: usize)
 {
     b[i] = (x % 256) as u8;
     b[i + 1] = (x / 256) as u8;
+}
+
+// Three numbers of 16 bits, one behind the other: so the blocks have a header, a record and a link.
+pub fn put_three(out: &mut [u8], at: usize, x: usize, y: usize, z: usize)
+    requires { ⌜ (at + 6 ≤ length (now out)) × (x ≤ 65535) × (y ≤ 65535) × (z ≤ 65535) ⌝ }
+    ensures { λ _. ⌜ now (out .exit) ≡ placed (now (out .entry)) at (words (x ∷ y ∷ z ∷ [])) ⌝ }
+{
+    put_word(out, at, x);
+    put_word(out, at + 2, y);
+    put_word(out, at + 4, z);
 }
 
 // Zeros to the end, whatever stood there.

@@ -1,4 +1,4 @@
-// The room of numerals: a number of 16 bits read from its decimal digits. The bytes are only read.
+// The corner of numerals: a number of 16 bits read from its decimal digits. The bytes are only read.
 
 ghost use mathlib.Core.Path.{_≡_};
 ghost use Rattle.memory.specs.Numeral.{numeral};

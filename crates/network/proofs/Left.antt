@@ -21,17 +21,17 @@ use Rattle.purge.specs.Network.{linksIn}
 use Rattle.result.proofs.Parts.{block-is, block-size}
 use Rattle.result.specs.Table.{Listable, linkBytes, tableBytes}
 use Rattle.network.specs.declared.draw.Sketch.{Sketch}
-use Rattle.network.specs.Drawn.{sketched, linksOf, typesOf}
+use Rattle.network.specs.Drawn.{sketched, verdictLinks, verdictTypes}
 use Rattle.network.specs.Called.{lentBy, Unlinked, Called}
 
 -- ── A verdict's links ──
 
 -- They fit what is lent, and the distance area is long enough where there is one.
 record Fits (lent : Lent) (m : ℕ) (v : Verdict) : Type 0 where
-  few : typesOf v ≤ 128
-  table-room : length (linksOf v) ≤ lent .links
-  cells : 1 ≤ length (linksOf v) → 16384 ≤ lent .distances
-  result-room : length (sketched m v) + 6 * length (linksOf v) ≤ lent .result
+  few : verdictTypes v ≤ 128
+  table-room : length (verdictLinks v) ≤ lent .links
+  cells : 1 ≤ length (verdictLinks v) → 16384 ≤ lent .distances
+  result-room : length (sketched m v) + 6 * length (verdictLinks v) ≤ lent .result
 
 links-fit : (lent : Lent) (job : Bytes) (v : Verdict) → verdict lent job ≡ v → Fits lent (width job) v
 links-fit lent job (refused a) e = record { few = omega arith; table-room = omega arith; cells = λ h. absurd (omega (arith, h)); result-room = omega arith }
@@ -45,7 +45,7 @@ links-fit lent job (found net) e =
     }
 
 -- Behind what is sketched they complete what the rules write.
-completed : (b : Bytes) (m : ℕ) (v : Verdict) → placed (placed b 0 (sketched m v)) (length (sketched m v)) (tableBytes (length (linksOf v)) (linksOf v)) ≡ placed b 0 (written m v)
+completed : (b : Bytes) (m : ℕ) (v : Verdict) → placed (placed b 0 (sketched m v)) (length (sketched m v)) (tableBytes (length (verdictLinks v)) (verdictLinks v)) ≡ placed b 0 (written m v)
 unfolding tableBytes gather
 completed b m (refused a) = sym (placed-none (placed b 0 (sketched m (refused a))) 0)
 completed b m (found net) = placed-twice b (sketched m (found net)) 0 (omega arith) _ _ (omega arith) ∙ ap (placed b 0) (sym (block-is m net))
@@ -93,7 +93,7 @@ module _ (job result states : Bytes) (distances : List ℕ) (links : List Link) 
 
   module _ {links₁ : List Link} (listed : links₁ ≡ placed links 0 (linksIn (r .types) distances′)) where
     abbrev ls : List Link
-    ls = linksOf v
+    ls = verdictLinks v
 
     listed-is : links₁ ≡ placed links 0 ls
     listed-is = listed ∙ ap (placed links 0) (a .wrote .links-are)

@@ -1,3 +1,3 @@
 pub mod Verdicts
-pub mod Ready
+pub mod Writable
 pub mod Steps

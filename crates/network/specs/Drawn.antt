@@ -21,22 +21,22 @@ abbrev pub sketched : ℕ → Verdict → Bytes
 sketched m (refused a) = []
 sketched m (found net) = front m net
 
-abbrev pub linksOf : Verdict → List Link
-linksOf (refused a) = []
-linksOf (found net) = net .links
+abbrev pub verdictLinks : Verdict → List Link
+verdictLinks (refused a) = []
+verdictLinks (found net) = net .links
 
-abbrev pub typesOf : Verdict → ℕ
-typesOf (refused a) = 0
-typesOf (found net) = length (net .types)
+abbrev pub verdictTypes : Verdict → ℕ
+verdictTypes (refused a) = 0
+verdictTypes (found net) = length (net .types)
 
 -- The rules' answer is given, and what they write stands at the front of the result up to its links, which the distance area tells.
 pub record Sketched (lent : Lent) (job result : Bytes) (r : Sketch) (result′ : Bytes) (distances′ : List ℕ) : Type 0 where
   pub answered : r .answer ≡ answer lent job
   pub result-is : result′ ≡ placed result 0 (sketched (width job) (verdict lent job))
   pub at-is : r .at ≡ length (sketched (width job) (verdict lent job))
-  pub types-are : r .types ≡ typesOf (verdict lent job)
-  pub links-are : linksIn (r .types) distances′ ≡ linksOf (verdict lent job)
-  pub count-is : r .links ≡ length (linksOf (verdict lent job))
+  pub types-are : r .types ≡ verdictTypes (verdict lent job)
+  pub links-are : linksIn (r .types) distances′ ≡ verdictLinks (verdict lent job)
+  pub count-is : r .links ≡ length (verdictLinks (verdict lent job))
 
 abbrev pub unsketched : Answer → Sketch
 unsketched a = record { answer = a; types = 0; links = 0; at = 0 }

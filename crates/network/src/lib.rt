@@ -12,14 +12,14 @@ use job::areas::check_areas;
 use job::checks::check;
 use memory::clear_bytes;
 use memory::clear_words;
-use result::table::clear;
-use result::table::list;
-use result::table::put;
+use result::table::clear_links;
+use result::table::list_links;
+use result::table::put_links;
 use rules::Answer;
 use rules::Link;
 
 // The refusals in the order they are tried, or the network up to its links. So many records of the link table are lent.
-fn answer_job(
+fn refuse_or_draw(
     job: &[u8],
     result: &mut [u8],
     states: &mut [u8],
@@ -49,7 +49,7 @@ fn sketch(
     ensures { λ r. ⌜ Unlinked (now (job .entry)) (now (result .entry)) (now (states .entry)) (now (distances .entry)) links r (now (result .exit)) (now (states .exit)) (now (distances .exit)) ⌝ }
 {
     clear_bytes(result);
-    let sketch = answer_job(job, result, states, distances, links);
+    let sketch = refuse_or_draw(job, result, states, distances, links);
     clear_bytes(states);
     sketch
 }
@@ -65,9 +65,9 @@ pub fn call(
     ensures { λ r. ⌜ Called (now (job .entry)) (now (result .entry)) (now (states .entry)) (now (distances .entry)) (now (links .entry)) r (now (result .exit)) (now (states .exit)) (now (distances .exit)) (now (links .exit)) ⌝ }
 {
     let drawn = sketch(job, result, states, distances, links.len());
-    list(distances, drawn.types, drawn.links, links);
-    put(links, drawn.links, result, drawn.at);
-    clear(links);
+    list_links(distances, drawn.types, drawn.links, links);
+    put_links(links, drawn.links, result, drawn.at);
+    clear_links(links);
     clear_words(distances);
     drawn.answer
 }

@@ -22,7 +22,7 @@ use Rattle.memory.proofs.Placed.{placed-padded}
 use Rattle.types.specs.State.{laid, rowIn, nodesIn}
 use Rattle.types.proofs.State.{row-back, row-of, kinds-at}
 use Rattle.distances.proofs.Area.{cell-or-not}
-use Rattle.links.specs.Marks.{Tells}
+use Rattle.links.specs.Marks.{TellsLinks}
 use Rattle.links.proofs.Marks.{same-mark}
 use Rattle.purge.specs.State.{epsilonOf}
 use Rattle.purge.specs.Holds.{Holds, Purged, runIn}
@@ -65,8 +65,8 @@ module _ {m : ℕ} {ws : List ℕ} {run : Run} {states : Bytes} {area : List ℕ
 
 -- Memory that holds a run and tells its links, of one size and phase, is one.
 module _ {m : ℕ} {ws : List ℕ} {run : Run} {e : ℕ} {states states′ : Bytes} {area area′ : List ℕ} {held held′ : Held}
-    (a : Holds m ws run states area held) (tells : Tells ws e (rowsOf (run .current)) area)
-    (b : Holds m ws run states′ area′ held′) (tells′ : Tells ws e (rowsOf (run .current)) area′)
+    (a : Holds m ws run states area held) (tells : TellsLinks ws e (rowsOf (run .current)) area)
+    (b : Holds m ws run states′ area′ held′) (tells′ : TellsLinks ws e (rowsOf (run .current)) area′)
     (few : length (run .current) ≤ 128) where
   same-cell : (p : ℕ) → getD area p 0 ≡ getD area′ p 0
   same-cell p = ⊎-elim (λ s. let (i, j, h, l, at) = s in rw at (pair i j h l))

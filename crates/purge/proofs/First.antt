@@ -11,7 +11,7 @@ use Rattle.rules.specs.Call.{padded}
 use Rattle.memory.proofs.Placed.{placed-padded}
 use Rattle.types.specs.State.{laid, kindsOf}
 use Rattle.types.proofs.State.{OfWidth, laid-at}
-use Rattle.distances.specs.Area.{Written, New, storedApart}
+use Rattle.distances.specs.Area.{CellsWritten, New, storedApart}
 use Rattle.distances.proofs.Measured.{measures-all}
 use Rattle.purge.specs.Holds.{Holds}
 use Rattle.purge.specs.declared.state.Phase.{Phase}
@@ -24,7 +24,7 @@ all-zero (suc n) (suc p) = all-zero n p
 module _ (m : ℕ) (ws : List ℕ) (ts : List Node) (few : length ts ≤ 128) (narrow : m ≤ 64) (wide : OfWidth m (rowsOf ts)) (weighed : length ws ≡ m)
     (states : Bytes) (lie : states ≡ padded (length states) (laid (rowsOf ts))) where
   pub holds-first : (N : ℕ) (area : List ℕ) (phase : Phase) →
-      Written (New 0 (length ts)) (storedApart (padded 64 ws) states) (replicate N 0) area →
+      CellsWritten (New 0 (length ts)) (storedApart (padded 64 ws) states) (replicate N 0) area →
       Holds m ws (record { current = ts; retired = []; rounds = 0 }) states area
       (record { state = record { types = length ts; made = length ts; rounds = 0; phase = phase }; kinds = kindsOf ts })
   holds-first N area phase w =

@@ -27,7 +27,7 @@ use Rattle.distances.proofs.Area.{cell-or-not}
 use Rattle.purge.specs.Left.{Chosen, isKept}
 use Rattle.purge.proofs.retire.Kept.{kept-gather}
 use Rattle.purge.proofs.retire.Laid.{partedRows, parted-wide, parted-laid}
-use Rattle.links.specs.Marks.{Tells}
+use Rattle.links.specs.Marks.{TellsLinks}
 use Rattle.purge.specs.Stay.{staying, Stays}
 use Rattle.purge.specs.Once.{Once}
 use Rattle.purge.specs.Holds.{Holds}
@@ -42,7 +42,7 @@ current-few {run} holds = omega (arith, holds .types-are, holds .made-are, made-
 
 module _ {m : ℕ} {ws : List ℕ} {run : Run} {states : Bytes} {area : List ℕ} {held : Held}
     (holds : Holds m ws run states area held) (full : held .state .made ≤ 128) (room : 8192 ≤ length states)
-    {e : ℕ} (tells : Tells ws e (rowsOf (run .current)) area)
+    {e : ℕ} (tells : TellsLinks ws e (rowsOf (run .current)) area)
     {stay : Stay} (stays : Stays (staying area (held .kinds) (held .state .types)) stay) where
   abbrev ts : List Node
   ts = run .current

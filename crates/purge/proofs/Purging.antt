@@ -11,7 +11,7 @@ use Rattle.rules.proofs.Ends.{purge-again, purge-none}
 use Rattle.memory.proofs.Placed.{length-placed}
 use Rattle.purge.specs.Left.{Chosen, parted}
 use Rattle.purge.proofs.retire.Parted.{parted-size}
-use Rattle.links.specs.Marks.{Tells}
+use Rattle.links.specs.Marks.{TellsLinks}
 use Rattle.purge.specs.State.{epsilonOf}
 use Rattle.purge.specs.Stay.{staying, Stays}
 use Rattle.purge.specs.Once.{Once, Surveyed}
@@ -30,7 +30,7 @@ epsilonIn held = epsilonOf (held .state .phase)
 pub record Since (m : ℕ) (ws : List ℕ) (e : ℕ) (run : Run) (states : Bytes) (area : List ℕ) (now : Held) : Type 0 where
   pub after : Run
   pub holds : Holds m ws after states area now
-  pub tells : Tells ws e (rowsOf (after .current)) area
+  pub tells : TellsLinks ws e (rowsOf (after .current)) area
   pub same : purge ws e after ≡ purge ws e run
 
 -- Since the links were found for the first time. Sizes and phase are as they were, whatever memory holds.
@@ -46,7 +46,7 @@ pub record Purging (states₀ : Bytes) (area₀ : List ℕ) (held : Held) (state
   pub full : now .state .made ≤ 128
   pub stays : Stays (staying area (now .kinds) (now .state .types)) stay
   pub since : (m : ℕ) (ws : List ℕ) (run : Run) → Holds m ws run states₀ area₀ held →
-      Tells ws (epsilonIn held) (rowsOf (run .current)) area₀ → Since m ws (epsilonIn held) run states area now
+      TellsLinks ws (epsilonIn held) (rowsOf (run .current)) area₀ → Since m ws (epsilonIn held) run states area now
 
 pub purging-none : {states : Bytes} {area area₀ : List ℕ} {held : Held} {stay : Stay} → held .state .types ≤ held .state .made →
     held .state .made ≤ 128 → Surveyed area held area₀ stay → Purging states area₀ held states area₀ held stay

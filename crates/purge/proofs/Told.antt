@@ -12,7 +12,7 @@ use Rattle.rules.specs.Types.{rowsOf}
 use Rattle.rules.specs.Purge.{Run, linksOf, obsolete, someObsolete}
 use Rattle.types.specs.State.{blank}
 use Rattle.types.proofs.State.{kinds-at}
-use Rattle.links.specs.Marks.{LinksFound, Tells}
+use Rattle.links.specs.Marks.{LinksFound, TellsLinks}
 use Rattle.links.proofs.Told.{measures-still, told, counted}
 use Rattle.purge.specs.Stay.{obsoleteIn, staying, Stays}
 use Rattle.purge.specs.Holds.{Holds}
@@ -47,11 +47,11 @@ module _ {m : ℕ} {ws : List ℕ} {run : Run} {states : Bytes} {area : List ℕ
           found .kept p (λ i j h l. other j i (omega arith) (omega arith) (omega arith)) ∙ holds .rest-zero p other;
     }
 
-    pub survey-tells : Tells ws e (rowsOf (run .current)) area′
+    pub survey-tells : TellsLinks ws e (rowsOf (run .current)) area′
     survey-tells = told ws e (rowsOf (run .current)) rows-few (holds .distances-are) of-rows
 
   -- Obsolete as memory tells it is obsolete by the rules.
-  module _ {e : ℕ} (tells : Tells ws e (rowsOf (run .current)) area) where
+  module _ {e : ℕ} (tells : TellsLinks ws e (rowsOf (run .current)) area) where
     abbrev goes : ℕ → Bool
     goes = obsolete (run .current) (linksOf ws e run)
 

@@ -6,14 +6,15 @@ use Prim.Native.Nat.{ℕ, _*_, _-_, _≤_, _<_}
 use lib.Dec.{eqb, ltb}
 use lib.ListN.{length, getD, take, drop}
 use Rattle.graph.specs.Below.{gather, given, some}
+use Rattle.rules.specs.Sizes.{mostTypes}
 use Rattle.rules.specs.Job.{Bytes}
 use Rattle.rules.specs.declared.Kind.{Kind}
-use Rattle.types.specs.State.{storedAt, blank}
+use Rattle.types.specs.State.{storedAt, blank, rowsFrom}
 use Rattle.distances.specs.Area.{cellAt}
 
 -- Of t types those at the places `kept` stay, so many of them, in their order.
 pub record Chosen (kept : List ℕ) (count t : ℕ) : Type 0 where
-  pub size : length kept ≡ 128
+  pub size : length kept ≡ mostTypes
   pub few : count ≤ t
   pub rising : (a b : ℕ) → a < b → b < count → getD kept a 0 < getD kept b 0
   pub within : (a : ℕ) → a < count → getD kept a 0 < t
@@ -27,13 +28,9 @@ squeezed kept count area i j = cond (ltb i j && ltb j count) (cellAt area (getD 
 
 -- The kinds of those that stay, and blank ones behind them.
 pub record KindsLeft (kinds : List Kind) (kept : List ℕ) (count : ℕ) (after : List Kind) : Type 0 where
-  pub size : length after ≡ 128
+  pub size : length after ≡ mostTypes
   pub stay : (a : ℕ) → a < count → getD after a blank ≡ getD kinds (getD kept a 0) blank
-  pub none : (a : ℕ) → count ≤ a → a < 128 → getD after a blank ≡ blank
-
--- The bytes of the rows from i on to before `made`.
-abbrev pub rowsFrom : Bytes → ℕ → ℕ → Bytes
-rowsFrom states i made = take (64 * (made - i)) (drop (64 * i) states)
+  pub none : (a : ℕ) → count ≤ a → a < mostTypes → getD after a blank ≡ blank
 
 -- The rows of those that stay, the rows retired before, and the rows of those that go.
 abbrev pub isKept : List ℕ → ℕ → ℕ → Bool

@@ -6,6 +6,7 @@ use Prim.Native.Nat.{ℕ, _<_}
 use lib.Dec.{leb}
 use lib.ListN.{length, getD}
 use Rattle.graph.specs.Below.{gather, only}
+use Rattle.rules.specs.Sizes.{mostTypes}
 use Rattle.rules.specs.Types.{inferred}
 use Rattle.rules.specs.declared.Kind.{Kind}
 use Rattle.rules.specs.declared.Origin.{Origin}
@@ -29,6 +30,6 @@ staying area kinds t = gather t (λ i. only (not (obsoleteIn area t (getD kinds 
 
 -- They stand in front of an array of 128.
 pub record Stays (places : List ℕ) (stay : Stay) : Type 0 where
-  pub size : length (stay .kept) ≡ 128
+  pub size : length (stay .kept) ≡ mostTypes
   pub count-is : stay .count ≡ length places
   pub kept-is : (a : ℕ) → a < length places → getD (stay .kept) a 0 ≡ getD places a 0

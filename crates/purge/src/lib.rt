@@ -7,6 +7,7 @@ pub mod stay;
 
 ghost use Prim.Native.Nat.{_≤_};
 ghost use lib.ListN.{length};
+ghost use Rattle.rules.specs.Sizes.{mostTypes, stateArea, distanceArea};
 ghost use Rattle.purge.specs.Left.{Chosen};
 ghost use Rattle.purge.specs.State.{epsilonOf};
 ghost use Rattle.purge.specs.Once.{Once, Surveyed};
@@ -21,7 +22,7 @@ use links::find_links;
 
 // The obsolete types go together; those at the places of `stay` stay.
 fn purge_once(states: &mut [u8], area: &mut [u16], held: Held, stay: Stay) -> Held
-    requires { ⌜ Chosen (stay .kept) (stay .count) (held .state .types) × (held .state .types ≤ held .state .made) × (held .state .made ≤ 128) × (8192 ≤ length (now states)) × (16384 ≤ length (now area)) ⌝ }
+    requires { ⌜ Chosen (stay .kept) (stay .count) (held .state .types) × (held .state .types ≤ held .state .made) × (held .state .made ≤ mostTypes) × (stateArea ≤ length (now states)) × (distanceArea ≤ length (now area)) ⌝ }
     ensures { λ r. ⌜ Once (now (states .entry)) (now (area .entry)) held stay (now (states .exit)) (now (area .exit)) r ⌝ }
 {
     let state = held.state;
@@ -39,7 +40,7 @@ fn purge_once(states: &mut [u8], area: &mut [u16], held: Held, stay: Stay) -> He
 
 // The links of the current types at the phase's epsilon, and which types stay by them.
 fn survey(area: &mut [u16], held: Held) -> Stay
-    requires { ⌜ (held .state .types ≤ 128) × (epsilonOf (held .state .phase) ≤ 65535) × (16384 ≤ length (now area)) ⌝ }
+    requires { ⌜ (held .state .types ≤ mostTypes) × (epsilonOf (held .state .phase) ≤ 65535) × (distanceArea ≤ length (now area)) ⌝ }
     ensures { λ r. ⌜ Surveyed (now (area .entry)) held (now (area .exit)) r ⌝ }
 {
     let state = held.state;
@@ -51,7 +52,7 @@ fn survey(area: &mut [u16], held: Held) -> Stay
 
 // All obsolete types go together, links are found afresh, and this repeats until none is obsolete.
 pub fn purge(states: &mut [u8], area: &mut [u16], held: Held) -> Held
-    requires { ⌜ (held .state .types ≤ held .state .made) × (held .state .made ≤ 128) × (epsilonOf (held .state .phase) ≤ 65535) × (8192 ≤ length (now states)) × (16384 ≤ length (now area)) ⌝ }
+    requires { ⌜ (held .state .types ≤ held .state .made) × (held .state .made ≤ mostTypes) × (epsilonOf (held .state .phase) ≤ 65535) × (stateArea ≤ length (now states)) × (distanceArea ≤ length (now area)) ⌝ }
     ensures { λ r. ⌜ Purged (now (states .entry)) (now (area .entry)) held (now (states .exit)) (now (area .exit)) r ⌝ }
 {
     let mut now = held;

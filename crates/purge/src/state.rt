@@ -1,10 +1,12 @@
-// The room of the run's small state: its counts, its round and its phase. Each method takes the state of the run and hands back the next
+// The corner of the run's small state: its counts, its round and its phase. Each method takes the state of the run and hands back the next
 // one. It touches no memory.
 
 ghost use mathlib.Core.Path.{_≡_};
 ghost use Prim.Native.Nat.{_+_, _≤_};
+ghost use Rattle.rules.specs.Sizes.{mostTypes};
 ghost use Rattle.purge.specs.State.{epsilonOf, keeping, grown, secondPhase};
 use rules::Kind;
+use rules::MOST_TYPES;
 
 // Phase I is at the job's epsilon, Phase II at epsilon 0.
 pub enum Phase {
@@ -42,7 +44,7 @@ impl State {
 
     // A round added so many types.
     pub fn grown(mut self, count: usize) -> Self
-        requires { ⌜ (self .types ≤ 128) × (self .made + count ≤ 128) × (self .rounds ≤ 128) ⌝ }
+        requires { ⌜ (self .types ≤ mostTypes) × (self .made + count ≤ mostTypes) × (self .rounds ≤ mostTypes) ⌝ }
         ensures { λ r. ⌜ r ≡ grown self count ⌝ }
     {
         self.types += count;
@@ -67,5 +69,5 @@ impl State {
 // What of the run is held by value: its small state, and the kinds of its current types.
 pub struct Held {
     pub state: State,
-    pub kinds: [Kind; 128],
+    pub kinds: [Kind; MOST_TYPES],
 }

@@ -1,16 +1,18 @@
-// The room of the types that stay: an inferred type with at most two links is obsolete, and all others stay. It reads the distance area.
+// The corner of the types that stay: an inferred type with at most two links is obsolete, and all others stay. It reads the distance area.
 
 ghost use mathlib.Core.Path.{_≡_};
 ghost use Prim.Native.Nat.{_≤_, _<_};
 ghost use lib.ListN.{length};
+ghost use Rattle.rules.specs.Sizes.{mostTypes, distanceArea};
 ghost use Rattle.purge.specs.Stay.{neededBy, obsoleteIn, staying, Stays};
 use links::link_count;
 use rules::Kind;
+use rules::MOST_TYPES;
 use rules::Origin;
 
 // The places of the types that stay, ascending, and how many they are.
 pub struct Stay {
-    pub kept: [usize; 128],
+    pub kept: [usize; MOST_TYPES],
     pub count: usize,
 }
 
@@ -27,7 +29,7 @@ fn needed(kind: Kind) -> usize
 
 // An inferred type with at most two links is obsolete. The links of a sampled type are not counted.
 fn obsolete(area: &[u16], t: usize, kind: Kind, i: usize) -> bool
-    requires { ⌜ (t ≤ 128) × (i < t) × (16384 ≤ length (now area)) ⌝ }
+    requires { ⌜ (t ≤ mostTypes) × (i < t) × (distanceArea ≤ length (now area)) ⌝ }
     ensures { λ r. ⌜ r ≡ obsoleteIn (now (area .entry)) t kind i ⌝ }
 {
     let needed = needed(kind);
@@ -35,11 +37,11 @@ fn obsolete(area: &[u16], t: usize, kind: Kind, i: usize) -> bool
 }
 
 // Which of t types stay.
-pub fn survivors(area: &[u16], t: usize, kinds: [Kind; 128]) -> Stay
-    requires { ⌜ (t ≤ 128) × (16384 ≤ length (now area)) ⌝ }
+pub fn survivors(area: &[u16], t: usize, kinds: [Kind; MOST_TYPES]) -> Stay
+    requires { ⌜ (t ≤ mostTypes) × (distanceArea ≤ length (now area)) ⌝ }
     ensures { λ r. ⌜ Stays (staying (now (area .entry)) kinds t) r ⌝ }
 {
-    let mut kept = [0usize; 128];
+    let mut kept = [0usize; MOST_TYPES];
     let mut count = 0;
     let mut i = 0;
     while i < t {

@@ -3,6 +3,7 @@ use mathlib.Core.Bool.{cond}
 use Prim.Native.Nat.{ℕ, _+_, _*_}
 use lib.Dec.{ltb}
 use Rattle.graph.specs.Below.{table}
+use Rattle.rules.specs.Result.{recordSize, linkSize}
 use Rattle.rules.specs.Job.{Bytes, word}
 use Rattle.rules.specs.Types.{Node}
 use Rattle.rules.specs.Run.{Network}
@@ -13,7 +14,7 @@ use Rattle.rules.specs.declared.Origin.the-variants.{Sampled, Inferred}
 
 -- The header says where records and links begin; a record has three numbers, and so has a link.
 abbrev pub recordAt : Bytes → ℕ → ℕ
-recordAt block k = word block 10 + 6 * k
+recordAt block k = word block 10 + recordSize * k
 
 abbrev pub readOrigin : Bytes → ℕ → Origin
 readOrigin block k =
@@ -22,7 +23,7 @@ readOrigin block k =
 
 abbrev pub readLink : Bytes → ℕ → Link
 readLink block k =
-    let at = word block 14 + 6 * k in
+    let at = word block 14 + linkSize * k in
     record { low = word block at; high = word block (at + 2); length = word block (at + 4) }
 
 -- A type's states are what the row lookup hands back.

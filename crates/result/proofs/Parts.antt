@@ -22,13 +22,13 @@ use Rattle.types.specs.State.{rowIn, nodesIn}
 use Rattle.distances.specs.Area.{cellAt}
 use Rattle.links.specs.Marks.{marked}
 use Rattle.purge.specs.declared.state.Held.{Held}
-use Rattle.result.specs.Records.{kindAt, sampledOf, recordsOf, rowsFrom}
-use Rattle.result.proofs.records.Written.{length-records, length-rowsFrom}
+use Rattle.result.specs.Records.{kindAt, sampledOf, recordsOf, inferredRows}
+use Rattle.result.proofs.records.RecordBytes.{length-records, length-rowsFrom}
 use Rattle.purge.specs.Network.{linksIn, networkIn}
 use Rattle.result.specs.Table.{tableBytes}
 use Rattle.result.proofs.table.Bytes.{length-tableBytes}
 use Rattle.result.specs.Front.{front}
-use Rattle.result.specs.Written.{Written}
+use Rattle.result.specs.FrontWritten.{FrontWritten}
 
 -- The offset of the links is small.
 pub links-short : {t m : ℕ} (s : ℕ) → t ≤ 128 → m ≤ 64 → linksOffset t s m ≤ 8976
@@ -76,8 +76,8 @@ module _ (m : ℕ) (states : Bytes) (kinds : List Kind) (t : ℕ) where
     unfolding recordsOf
     records-are = gather-ext t _ _ (λ k h. rw (node-at k h))
 
-    rows-are : gather (t - s) (λ i. nodeAt nodes (s + i) .row) ≡ rowsFrom m states s (t - s)
-    unfolding rowsFrom
+    rows-are : gather (t - s) (λ i. nodeAt nodes (s + i) .row) ≡ inferredRows m states s (t - s)
+    unfolding inferredRows
     rows-are = gather-ext (t - s) _ _ (λ i h. rw (node-at (s + i) (omega arith)))
 
 -- ── The front ──
@@ -93,7 +93,7 @@ module _ (m : ℕ) (states : Bytes) (area : List ℕ) (held : Held) (s : ℕ) (e
   numbers l = header types s m l (held .state .rounds)
 
   front-parts : front m (networkIn m states area held)
-      ≡ words (numbers (length (linksIn types area))) ++ recordsOf kinds types s ++ rowsFrom m states s (types - s)
+      ≡ words (numbers (length (linksIn types area))) ++ recordsOf kinds types s ++ inferredRows m states s (types - s)
   unfolding front networkIn
   front-parts =
       rw (
@@ -111,14 +111,14 @@ module _ (m : ℕ) (states : Bytes) (area : List ℕ) (held : Held) (s : ℕ) (e
 
   -- The header, and each part behind the one before.
   pub parts-written : {out b₁ b₂ b₃ : Bytes} {l : ℕ} → l ≡ length (linksIn types area) → b₁ ≡ placed out 0 (words (numbers l)) →
-      b₂ ≡ placed b₁ 16 (recordsOf kinds types s) → b₃ ≡ placed b₂ (rowsOffset types) (rowsFrom m states s (types - s)) →
-      Written m states area held out b₃ (record { links = l; at = linksOffset types s m })
+      b₂ ≡ placed b₁ 16 (recordsOf kinds types s) → b₃ ≡ placed b₂ (rowsOffset types) (inferredRows m states s (types - s)) →
+      FrontWritten m states area held out b₃ (record { links = l; at = linksOffset types s m })
   parts-written {out} {b₁} {b₂} {b₃} {l} count head records rows =
       let room : 0 ≤ length out = omega arith in
       let one : Follows out 0 (words (numbers l)) b₁ 16 = record { is = head; behind = omega (arith, length-words (numbers l)) } in
       let two : Follows b₁ 16 (recordsOf kinds types s) b₂ (rowsOffset types) =
       record { is = records; behind = omega (arith, length-records kinds s types) } in
-      let three : Follows b₂ (rowsOffset types) (rowsFrom m states s (types - s)) b₃ (linksOffset types s m) =
+      let three : Follows b₂ (rowsOffset types) (inferredRows m states s (types - s)) b₃ (linksOffset types s m) =
       record { is = rows; behind = omega (arith, length-rowsFrom m states s (types - s)) } in
       let all = follows-on (follows-on one room two) room three in
       record {

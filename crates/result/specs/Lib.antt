@@ -1,5 +1,5 @@
 pub mod Front
-pub mod Written
+pub mod FrontWritten
 pub mod Records
 pub mod Lines
 pub mod Order

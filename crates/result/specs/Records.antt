@@ -20,8 +20,8 @@ OriginFits (Inferred round) = round ≤ 65535
 abbrev pub kindAt : List Kind → ℕ → Kind
 kindAt kinds k = getD kinds k blank
 
-abbrev pub Told : List Kind → ℕ → Type 0
-Told kinds t = (k : ℕ) → k < t → OriginFits (kindAt kinds k .origin)
+abbrev pub OriginsFit : List Kind → ℕ → Type 0
+OriginsFit kinds t = (k : ℕ) → k < t → OriginFits (kindAt kinds k .origin)
 
 -- How many of t types are sampled.
 abbrev pub sampledOf : List Kind → ℕ → ℕ
@@ -32,5 +32,5 @@ unfoldable pub recordsOf : List Kind → ℕ → ℕ → Bytes
 recordsOf kinds t s = gather t (λ k. words (recordOf (kindAt kinds k .origin) (k - s)))
 
 -- So many rows of width m, from type s on.
-unfoldable pub rowsFrom : ℕ → Bytes → ℕ → ℕ → Bytes
-rowsFrom m states s n = gather n (λ i. rowIn m states (s + i))
+unfoldable pub inferredRows : ℕ → Bytes → ℕ → ℕ → Bytes
+inferredRows m states s n = gather n (λ i. rowIn m states (s + i))

@@ -1,18 +1,20 @@
-// The room of the links' order: how many links the distance area tells, and which comes next, ascending by lower, then higher number. It
+// The corner of the links' order: how many links the distance area tells, and which comes next, ascending by lower, then higher number. It
 // reads the marks and distances of the distance area and writes nothing.
 
 ghost use mathlib.Core.Path.{_≡_};
 ghost use Prim.Native.Nat.{_≤_, _<_};
 ghost use lib.ListN.{length};
+ghost use Rattle.rules.specs.Sizes.{mostTypes, distanceArea};
 ghost use Rattle.purge.specs.Network.{linksIn};
 ghost use Rattle.result.specs.Lines.{lineOf, linksBefore, Reached};
 ghost use Rattle.result.specs.Order.{HasNext, Next};
 use links::linked;
+use rules::LINE;
 use rules::Link;
 
 // How many types above type i, of t types, are linked with it.
 fn count_line(area: &[u16], t: usize, i: usize) -> usize
-    requires { ⌜ (16384 ≤ length (now area)) × (t ≤ 128) × (i < t) ⌝ }
+    requires { ⌜ (distanceArea ≤ length (now area)) × (t ≤ mostTypes) × (i < t) ⌝ }
     ensures { λ r. ⌜ r ≡ length (lineOf (now (area .entry)) t i) ⌝ }
 {
     let mut n = 0;
@@ -28,7 +30,7 @@ fn count_line(area: &[u16], t: usize, i: usize) -> usize
 
 // How many links t types have.
 pub fn count_links(area: &[u16], t: usize) -> usize
-    requires { ⌜ (16384 ≤ length (now area)) × (t ≤ 128) ⌝ }
+    requires { ⌜ (distanceArea ≤ length (now area)) × (t ≤ mostTypes) ⌝ }
     ensures { λ r. ⌜ r ≡ length (linksIn t (now (area .entry))) ⌝ }
 {
     let mut n = 0;
@@ -42,7 +44,7 @@ pub fn count_links(area: &[u16], t: usize) -> usize
 
 // The first of t types, from one on, that is linked with type i; t if there is none.
 fn next_in_line(area: &[u16], t: usize, i: usize, from: usize) -> usize
-    requires { ⌜ (16384 ≤ length (now area)) × (t ≤ 128) × (i < from) × (from ≤ t) ⌝ }
+    requires { ⌜ (distanceArea ≤ length (now area)) × (t ≤ mostTypes) × (i < from) × (from ≤ t) ⌝ }
     ensures { λ r. ⌜ Reached (now (area .entry)) t (linksBefore (now (area .entry)) t i from) i r ⌝ }
 {
     let mut j = from;
@@ -57,7 +59,7 @@ fn next_in_line(area: &[u16], t: usize, i: usize, from: usize) -> usize
 
 // The link that comes next behind a link, or the first one behind none.
 pub fn next_link(area: &[u16], t: usize, last: Link) -> Link
-    requires { ⌜ (16384 ≤ length (now area)) × (t ≤ 128) × HasNext (linksIn t (now area)) last ⌝ }
+    requires { ⌜ (distanceArea ≤ length (now area)) × (t ≤ mostTypes) × HasNext (linksIn t (now area)) last ⌝ }
     ensures { λ r. ⌜ Next (linksIn t (now (area .entry))) last r ⌝ }
 {
     let mut i = last.low as usize;
@@ -69,6 +71,6 @@ pub fn next_link(area: &[u16], t: usize, last: Link) -> Link
     Link {
         low: i as u16,
         high: j as u16,
-        length: area[128 * i + j],
+        length: area[LINE * i + j],
     }
 }

@@ -18,7 +18,7 @@ use Rattle.rules.specs.Call.{padded}
 use Rattle.rules.proofs.Rounds.{AscendingRows, added-ascends, ascending-same, added-offered, added-none, added-some, offer-width}
 use Rattle.rules.proofs.Window.{ascending-few, in-window, stored-ascends}
 use Rattle.types.specs.State.{stored, laid}
-use Rattle.links.specs.Marks.{Tells}
+use Rattle.links.specs.Marks.{TellsLinks}
 use Rattle.purge.specs.declared.state.Held.{Held}
 use Rattle.sweep.specs.Candidate.{Candidate}
 use Rattle.round.specs.Fresh.{InWindow, All, Fresh}
@@ -31,7 +31,7 @@ not-empty : {A : Type 0} (x : A) (xs : List A) → In x xs → xs ≢ []
 not-empty x xs h none = rw none at h
 
 module _ {weights : List ℕ} {m : ℕ} {ws : List ℕ} {run : Run} {states : Bytes} {area : List ℕ} {held : Held} {e : ℕ}
-    (carries : Carries weights m ws run states area held) (few : held .state .made ≤ 128) (tells : Tells ws e (rowsOf (run .current)) area) where
+    (carries : Carries weights m ws run states area held) (few : held .state .made ≤ 128) (tells : TellsLinks ws e (rowsOf (run .current)) area) where
   -- Fresh rows are as wide as the others, and ascend as they are stored.
   pub fresh-wide : (x : Row) → In x (fresh ws e run) → length x ≡ m
   fresh-wide x h =

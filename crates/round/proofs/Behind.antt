@@ -10,9 +10,8 @@ use Rattle.rules.specs.Call.{padded}
 use Rattle.rules.proofs.Block.{stands-part}
 use Rattle.memory.specs.Placed.{placed}
 use Rattle.memory.proofs.Placed.{stands-placed, placed-over, placed-twice, length-placed, placed-padded}
-use Rattle.types.specs.State.{stored, laid}
+use Rattle.types.specs.State.{stored, laid, rowsFrom}
 use Rattle.types.proofs.State.{OfWidth, length-stored, length-laid, laid-append, laid-both}
-use Rattle.purge.specs.Left.{rowsFrom}
 
 -- What is placed, with all that stands before it.
 taken-placed : (b xs : Bytes) (at n : ℕ) → at ≤ length b → at + length xs ≡ n → take n (placed b at xs) ≡ take at b ++ xs

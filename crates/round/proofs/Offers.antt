@@ -21,7 +21,7 @@ use Rattle.rules.proofs.Between.{each-median, one-of-length}
 use Rattle.rules.proofs.Rounds.{Medial, in-offers, offer-width}
 use Rattle.types.specs.State.{stored, storedAt}
 use Rattle.types.proofs.State.{stored-same}
-use Rattle.links.specs.Marks.{marked, Tells}
+use Rattle.links.specs.Marks.{marked, TellsLinks}
 use Rattle.links.proofs.Told.{marked-is}
 use Rattle.purge.specs.declared.state.Held.{Held}
 use Rattle.purge.proofs.Once.{current-few}
@@ -103,7 +103,7 @@ module _ {weights : List ℕ} {m : ℕ} {ws : List ℕ} {run : Run} {states : By
     )
 
   -- Memory tells the links at epsilon.
-  module _ {e : ℕ} (tells : Tells ws e (rowsOf (run .current)) area) where
+  module _ {e : ℕ} (tells : TellsLinks ws e (rowsOf (run .current)) area) where
     pub marked-linked : (i j : ℕ) → i ≢ j → i < n → j < n → marked area i j ≡ linked (linksOf ws e run) i j
     marked-linked i j ne hi hj =
         let few′ : length (rowsOf (run .current)) ≤ 128 = omega (arith, current-count carries few, current-few (carries .holds)) in

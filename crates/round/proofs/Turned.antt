@@ -11,7 +11,7 @@ use Rattle.rules.specs.Types.{rowsOf}
 use Rattle.rules.specs.Purge.{Run}
 use Rattle.rules.specs.Round.{made}
 use Rattle.rules.specs.Run.{fresh}
-use Rattle.links.specs.Marks.{Tells}
+use Rattle.links.specs.Marks.{TellsLinks}
 use Rattle.purge.specs.State.{epsilonOf}
 use Rattle.purge.specs.declared.state.Held.{Held}
 use Rattle.round.specs.Fresh.{Fresh}
@@ -48,7 +48,7 @@ module _ {weights : List ℕ} {states : Bytes} {area : List ℕ} {held : Held} {
     has-room = is-false (r .full) (λ full. omega (arith, found .none-then full .0))
 
     next-run : (m : ℕ) (ws : List ℕ) (run : Run) → Carries weights m ws run states area held →
-        Tells ws (epsilonOf (held .state .phase)) (rowsOf (run .current)) area → Grows m ws (epsilonOf (held .state .phase)) run states′ area′ next
+        TellsLinks ws (epsilonOf (held .state .phase)) (rowsOf (run .current)) area → Grows m ws (epsilonOf (held .state .phase)) run states′ area′ next
     next-run m ws run carries tells =
         let xs = fresh ws (epsilonOf (held .state .phase)) run in
         let all = fresh-count carries few tells found has-room in

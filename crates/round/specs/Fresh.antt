@@ -6,6 +6,7 @@ use mathlib.Core.List.{List}
 use Prim.Native.Nat.{ℕ, _+_, _*_, _≤_, _<_}
 use lib.ListN.{length, replicate}
 use Rattle.graph.proofs.Below.{In}
+use Rattle.rules.specs.Sizes.{mostTypes, rowSize, stateArea, distanceArea}
 use Rattle.rules.specs.Job.{Bytes}
 use Rattle.rules.specs.Call.{padded}
 use Rattle.rules.proofs.Rounds.{AscendingRows}
@@ -20,17 +21,17 @@ abbrev pub withRows : Bytes → ℕ → Added
 withRows rows count = record { rows = rows; count = count; full = false }
 
 abbrev pub NoneFits : Added → Type 0
-NoneFits r = (r .rows ≡ replicate 8192 0) × (r .count ≡ 0) × (r .full ≡ true)
+NoneFits r = (r .rows ≡ replicate stateArea 0) × (r .count ≡ 0) × (r .full ≡ true)
 
 -- What it takes to choose a round's rows: n types are current, and who is linked with them is known.
 pub record Choosing (states : Bytes) (area ws next : List ℕ) (n made e : ℕ) : Type 0 where
   pub weighed : Weighed ws
   pub follows : Followers area n next
   pub current : n ≤ made
-  pub few : made ≤ 128
+  pub few : made ≤ mostTypes
   pub small : e ≤ 65535
-  pub lie : 64 * made ≤ length states
-  pub cells : 16384 ≤ length area
+  pub lie : rowSize * made ≤ length states
+  pub cells : distanceArea ≤ length area
 
 -- A candidate that the round adds: one of its costs is at most the cost of any candidate and epsilon.
 pub record InWindow (ws : List ℕ) (states : Bytes) (area : List ℕ) (n made e : ℕ) (x : Bytes) : Type 0 where
@@ -44,17 +45,17 @@ pub record All (ws : List ℕ) (states : Bytes) (area : List ℕ) (n made e : �
   pub ascends : AscendingRows xs
   pub exact : (x : Bytes) → In x xs ↔ InWindow ws states area n made e x
   pub count-is : r .count ≡ length xs
-  pub rows-are : r .rows ≡ padded 8192 (laid xs)
+  pub rows-are : r .rows ≡ padded stateArea (laid xs)
 
 pub record TooMany (ws : List ℕ) (states : Bytes) (area : List ℕ) (n made e : ℕ) : Type 0 where
   pub xs : List Bytes
   pub ascends : AscendingRows xs
   pub each : (x : Bytes) → In x xs → InWindow ws states area n made e x
-  pub no-room : 128 < made + length xs
+  pub no-room : mostTypes < made + length xs
 
 pub record Fresh (ws : List ℕ) (states : Bytes) (area : List ℕ) (n made e : ℕ) (r : Added) : Type 0 where
-  pub size : length (r .rows) ≡ 8192
-  pub room : made + r .count ≤ 128
+  pub size : length (r .rows) ≡ stateArea
+  pub room : made + r .count ≤ mostTypes
   pub all : Faithful ws states area n → r .full ≡ false → All ws states area n made e r
   pub too-many : Faithful ws states area n → r .full ≡ true → TooMany ws states area n made e
-  pub none-then : r .full ≡ true → (r .count ≡ 0) × (r .rows ≡ replicate 8192 0)
+  pub none-then : r .full ≡ true → (r .count ≡ 0) × (r .rows ≡ replicate stateArea 0)

@@ -4,9 +4,10 @@ use mathlib.Core.List.{List, [], _∷_, _++_}
 use Prim.Native.Nat.{ℕ, zero, suc, _*_, _-_, Ordering·lt, Ordering·eq, Ordering·gt}
 use lib.ListN.{take, drop}
 use Rattle.graph.specs.Below.{first}
+use Rattle.rules.specs.Sizes.{rowSize}
 use Rattle.rules.specs.Job.{Bytes, Row}
 use Rattle.rules.specs.Round.{compareRows}
-use Rattle.types.specs.State.{storedAt}
+use Rattle.types.specs.State.{storedAt, rowsFrom}
 use Rattle.memory.specs.Placed.{placed}
 
 -- A row stands before another: the first difference decides.
@@ -24,12 +25,8 @@ sorted zero f = []
 sorted (suc n) f = put (f n) (sorted n f)
 
 -- The same in memory, rows of 64 bytes one behind the other.
-abbrev pub placeIn : Bytes → ℕ → Bytes → ℕ
-placeIn rows count row = first count (λ i. not (before (storedAt rows i) row))
-
--- The rows from number i on.
-abbrev pub rowsFrom : Bytes → ℕ → ℕ → Bytes
-rowsFrom rows i count = take (64 * (count - i)) (drop (64 * i) rows)
+abbrev pub rowPlace : Bytes → ℕ → Bytes → ℕ
+rowPlace rows count row = first count (λ i. not (before (storedAt rows i) row))
 
 unfoldable pub withRow : Bytes → ℕ → Bytes → Bytes
-withRow rows count row = let i = placeIn rows count row in placed rows (64 * i) (row ++ rowsFrom rows i count)
+withRow rows count row = let i = rowPlace rows count row in placed rows (rowSize * i) (row ++ rowsFrom rows i count)

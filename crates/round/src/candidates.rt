@@ -1,17 +1,19 @@
-// The room of candidates: the sweep is made twice, once for lambda, the least cost of any candidate, and once for the candidates that
+// The corner of candidates: the sweep is made twice, once for lambda, the least cost of any candidate, and once for the candidates that
 // the round adds. It reads the state area and the distance area.
 
 ghost use mathlib.Core.Path.{_≡_};
-ghost use Rattle.sweep.specs.Candidate.{Worded};
+ghost use Rattle.sweep.specs.Candidate.{Remembered};
 ghost use Rattle.round.specs.Fresh.{withRows, NoneFits, Choosing, Fresh};
 use crate::ascending::ascending;
-use medians::known::guess_all;
+use medians::guesses::guess_all;
 use medians::search::Search;
+use rules::MOST_TYPES;
+use rules::STATE_AREA;
 use sweep::sweep;
 
 // The rows that a round adds, ascending, with zeros behind them; or no room for them.
 pub struct Added {
-    pub rows: [u8; 8192],
+    pub rows: [u8; STATE_AREA],
     pub count: usize,
     pub full: bool,
 }
@@ -20,7 +22,7 @@ pub struct Added {
 fn none_fits() -> Added
     ensures { λ r. ⌜ NoneFits r ⌝ }
 {
-    let rows = [0u8; 8192];
+    let rows = [0u8; STATE_AREA];
     Added {
         rows,
         count: 0,
@@ -29,7 +31,7 @@ fn none_fits() -> Added
 }
 
 // So many rows are added.
-fn with_rows(rows: [u8; 8192], count: usize) -> Added
+fn with_rows(rows: [u8; STATE_AREA], count: usize) -> Added
     ensures { λ r. ⌜ r ≡ withRows rows count ⌝ }
 {
     Added {
@@ -46,19 +48,19 @@ pub fn choose(
     area: &[u16],
     weights: &[u16],
     next: &[u16],
-    words: &mut [u64],
+    mismatches: &mut [u64],
     hints: &[u64],
     m: usize,
     n: usize,
     made: usize,
     epsilon: usize,
 ) -> Added
-    requires { ⌜ Choosing (now states) (now area) (now weights) (now next) n made epsilon × Worded (now states) (now words) m made ⌝ }
+    requires { ⌜ Choosing (now states) (now area) (now weights) (now next) n made epsilon × Remembered (now states) (now mismatches) m made ⌝ }
     ensures { λ r. ⌜ Fresh (now (weights .entry)) (now (states .entry)) (now (area .entry)) n made epsilon r ⌝ }
 {
     let mut guesses = guess_all(states, made);
-    let mut rows = [0u8; 8192];
-    let mut floors = [0usize; 128];
+    let mut rows = [0u8; STATE_AREA];
+    let mut floors = [0usize; MOST_TYPES];
     let any = Search::for_lambda(made);
     let least = sweep(
         states,
@@ -66,7 +68,7 @@ pub fn choose(
         weights,
         next,
         &mut floors,
-        words,
+        mismatches,
         hints,
         &mut rows,
         &mut guesses,
@@ -84,7 +86,7 @@ pub fn choose(
         weights,
         next,
         &mut floors,
-        words,
+        mismatches,
         hints,
         &mut rows,
         &mut guesses,

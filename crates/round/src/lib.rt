@@ -9,17 +9,21 @@ ghost use mathlib.Core.Path.{_≡_};
 ghost use mathlib.Core.List.{_++_};
 ghost use Prim.Native.Nat.{_+_, _*_, _≤_};
 ghost use lib.ListN.{length, take};
+ghost use Rattle.rules.specs.Sizes.{mostTypes, rowSize, stateArea, distanceArea};
 ghost use Rattle.memory.specs.Placed.{placed};
 ghost use Rattle.distances.specs.Area.{Weighed};
-ghost use Rattle.purge.specs.Left.{rowsFrom};
 ghost use Rattle.purge.specs.State.{epsilonOf};
 ghost use Rattle.round.specs.Grown.{kindsWith, Grew};
 ghost use Rattle.round.specs.Rounded.{Rounded};
+ghost use Rattle.types.specs.State.{rowsFrom};
 use distances::measure;
 use memory::copy;
 use purge::state::Held;
 use rules::Kind;
+use rules::MOST_TYPES;
 use rules::Origin;
+use rules::ROW;
+use rules::STATE_AREA;
 
 // What a round comes to: the run's state, and how many types were added; none are where there is no candidate, or no room.
 pub struct Turn {
@@ -29,21 +33,21 @@ pub struct Turn {
 }
 
 // The rows added go between the t current ones and those retired.
-fn put_rows(states: &mut [u8], rows: [u8; 8192], count: usize, t: usize, made: usize)
-    requires { ⌜ (t ≤ made) × (made + count ≤ 128) × (length rows ≡ 8192) × (8192 ≤ length (now states)) ⌝ }
-    ensures { λ _. ⌜ now (states .exit) ≡ placed (now (states .entry)) (64 * t) (take (64 * count) rows ++ rowsFrom (now (states .entry)) t made) ⌝ }
+fn insert_rows(states: &mut [u8], rows: [u8; STATE_AREA], count: usize, t: usize, made: usize)
+    requires { ⌜ (t ≤ made) × (made + count ≤ mostTypes) × (length rows ≡ stateArea) × (stateArea ≤ length (now states)) ⌝ }
+    ensures { λ _. ⌜ now (states .exit) ≡ placed (now (states .entry)) (rowSize * t) (take (rowSize * count) rows ++ rowsFrom (now (states .entry)) t made) ⌝ }
 {
     let mut all = rows;
-    let from = 64 * t;
-    let to = 64 * made;
-    copy(&states[from..to], &mut all, 64 * count);
-    let size = 64 * count + to - from;
+    let from = ROW * t;
+    let to = ROW * made;
+    copy(&states[from..to], &mut all, ROW * count);
+    let size = ROW * count + to - from;
     copy(&all[..size], states, from);
 }
 
 // The kinds of the types added in a round.
-fn put_kinds(kinds: [Kind; 128], t: usize, count: usize, round: usize) -> [Kind; 128]
-    requires { ⌜ (t + count ≤ 128) × (length kinds ≡ 128) ⌝ }
+fn put_kinds(kinds: [Kind; MOST_TYPES], t: usize, count: usize, round: usize) -> [Kind; MOST_TYPES]
+    requires { ⌜ (t + count ≤ mostTypes) × (length kinds ≡ mostTypes) ⌝ }
     ensures { λ r. ⌜ r ≡ kindsWith kinds t count round ⌝ }
 {
     let new = Kind {
@@ -60,22 +64,22 @@ fn put_kinds(kinds: [Kind; 128], t: usize, count: usize, round: usize) -> [Kind;
 }
 
 // So many rows are added.
-fn grow(
+fn add_types(
     states: &mut [u8],
     area: &mut [u16],
     weights: &[u16],
     held: Held,
-    rows: [u8; 8192],
+    rows: [u8; STATE_AREA],
     count: usize,
 ) -> Held
-    requires { ⌜ Weighed (now weights) × (held .state .types ≤ held .state .made) × (held .state .made + count ≤ 128)
-        × (held .state .rounds ≤ held .state .made) × (length (held .kinds) ≡ 128) × (length rows ≡ 8192)
-        × (8192 ≤ length (now states)) × (16384 ≤ length (now area)) ⌝ }
+    requires { ⌜ Weighed (now weights) × (held .state .types ≤ held .state .made) × (held .state .made + count ≤ mostTypes)
+        × (held .state .rounds ≤ held .state .made) × (length (held .kinds) ≡ mostTypes) × (length rows ≡ stateArea)
+        × (stateArea ≤ length (now states)) × (distanceArea ≤ length (now area)) ⌝ }
     ensures { λ r. ⌜ Grew (now (weights .entry)) (now (states .entry)) (now (area .entry)) held rows count (now (states .exit)) (now (area .exit)) r ⌝ }
 {
     let state = held.state;
     let t = state.types;
-    put_rows(states, rows, count, t, state.made);
+    insert_rows(states, rows, count, t, state.made);
     measure(states, area, weights, t, t + count);
     let kinds = held.kinds;
     let all = put_kinds(kinds, t, count, state.rounds + 1);
@@ -87,9 +91,9 @@ fn grow(
 
 // A round: all candidates of a cost of at most lambda and epsilon are added. The links of the current types stand in the area.
 pub fn round(states: &mut [u8], area: &mut [u16], weights: &[u16], held: Held) -> Turn
-    requires { ⌜ Weighed (now weights) × (held .state .types ≤ held .state .made) × (held .state .made ≤ 128)
-        × (held .state .rounds ≤ held .state .made) × (length (held .kinds) ≡ 128) × (epsilonOf (held .state .phase) ≤ 65535)
-        × (8192 ≤ length (now states)) × (16384 ≤ length (now area)) ⌝ }
+    requires { ⌜ Weighed (now weights) × (held .state .types ≤ held .state .made) × (held .state .made ≤ mostTypes)
+        × (held .state .rounds ≤ held .state .made) × (length (held .kinds) ≡ mostTypes) × (epsilonOf (held .state .phase) ≤ 65535)
+        × (stateArea ≤ length (now states)) × (distanceArea ≤ length (now area)) ⌝ }
     ensures { λ r. ⌜ Rounded (now (weights .entry)) (now (states .entry)) (now (area .entry)) held (now (states .exit)) (now (area .exit)) r ⌝ }
 {
     let state = held.state;
@@ -110,7 +114,7 @@ pub fn round(states: &mut [u8], area: &mut [u16], weights: &[u16], held: Held) -
         };
     }
     let rows = new.rows;
-    let next = grow(states, area, weights, held, rows, count);
+    let next = add_types(states, area, weights, held, rows, count);
     Turn {
         held: next,
         added: count,

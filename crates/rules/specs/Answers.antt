@@ -46,7 +46,7 @@ used Split = 0
 
 -- The refusal where its test passes, and else what is tried next.
 infixr 1 when_refuse_else_
-abbrev pub when_refuse_else_ : Bool → Answer → Answer → Answer
+abbrev pub when_refuse_else_ : {A : Type 0} → Bool → A → A → A
 when true refuse a else next = a
 when false refuse a else next = next
 

@@ -5,6 +5,7 @@ use Prim.Native.Nat.{ℕ, _+_, _*_}
 use lib.Dec.{ltb, eqb}
 use lib.ListN.{length, getD}
 use Rattle.graph.specs.Below.{table, first}
+use Rattle.rules.specs.Sizes.{mostRows, mostWidth, mostWeight, firstState, lastState, jobHead}
 use Rattle.rules.specs.Answers.{when_refuse_else_, passed}
 use Rattle.rules.specs.declared.Answer.{Answer}
 use Rattle.rules.specs.declared.Answer.the-variants.{Head, Rows, Width, Layout, Weight, State}
@@ -27,13 +28,13 @@ abbrev pub epsilon : Bytes → ℕ
 epsilon job = word job 4
 
 abbrev pub weightsOffset : ℕ
-weightsOffset = 12
+weightsOffset = jobHead
 
 abbrev pub statesOffset : Bytes → ℕ
-statesOffset job = 12 + 2 * width job
+statesOffset job = jobHead + 2 * width job
 
 abbrev pub wholeLength : Bytes → ℕ
-wholeLength job = 12 + 2 * width job + rows job * width job
+wholeLength job = jobHead + 2 * width job + rows job * width job
 
 -- Weights are m numbers of 16 bits.
 abbrev pub weightAt : Bytes → ℕ → ℕ
@@ -60,17 +61,17 @@ abbrev pub outside : ℕ → ℕ → ℕ → Bool
 outside low high x = ltb x low || ltb high x
 
 unfoldable pub badWeight : Bytes → ℕ
-badWeight job = first (width job) (λ c. outside 1 1000 (weightAt job c))
+badWeight job = first (width job) (λ c. outside 1 mostWeight (weightAt job c))
 
 unfoldable pub badState : Bytes → ℕ
-badState job = first (rows job * width job) (λ i. outside 33 126 (stateAt job i))
+badState job = first (rows job * width job) (λ i. outside firstState lastState (stateAt job i))
 
 -- The refusals 2 to 7 in the order they are tried.
 unfoldable pub checked : Bytes → Answer
 checked job =
-    when ltb (length job) 12 refuse Head else
-    when outside 1 256 (rows job) refuse Rows else
-    when outside 1 64 (width job) refuse Width else
+    when ltb (length job) jobHead refuse Head else
+    when outside 1 mostRows (rows job) refuse Rows else
+    when outside 1 mostWidth (width job) refuse Width else
     when not (eqb (word job 6) weightsOffset) refuse Layout 6 else
     when not (eqb (word job 8) (statesOffset job)) refuse Layout 8 else
     when not (eqb (word job 10) (wholeLength job)) refuse Layout 10 else

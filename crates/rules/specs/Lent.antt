@@ -2,6 +2,7 @@
 use mathlib.Core.Bool.{Bool, _||_}
 use Prim.Native.Nat.{ℕ}
 use lib.Dec.{ltb}
+use Rattle.rules.specs.Sizes.{mostLinks, resultArea, stateArea, distanceArea}
 
 -- The lengths lent: result bytes, state bytes, distances, links.
 pub record Lent : Type 0 where
@@ -12,8 +13,8 @@ pub record Lent : Type 0 where
 
 -- The least that may be lent.
 abbrev pub least : Lent
-least = record { result = 57680; states = 8192; distances = 16384; links = 8128 }
+least = record { result = resultArea; states = stateArea; distances = distanceArea; links = mostLinks }
 
 -- A lent area is shorter than 57,680 bytes, 8,192 bytes, 16,384 numbers or 8,128 records.
 unfoldable pub areaShort : Lent → Bool
-areaShort lent = ltb (lent .result) 57680 || ltb (lent .states) 8192 || ltb (lent .distances) 16384 || ltb (lent .links) 8128
+areaShort lent = ltb (lent .result) resultArea || ltb (lent .states) stateArea || ltb (lent .distances) distanceArea || ltb (lent .links) mostLinks

@@ -4,6 +4,7 @@ use mathlib.Core.List.{[]}
 use Prim.Native.Nat.{ℕ, _+_, _*_, _-_}
 use lib.Dec.{ltb, leb, eqb}
 use lib.ListN.{length, take, drop}
+use Rattle.rules.specs.Sizes.{mostTypes}
 use Rattle.rules.specs.Answers.{number}
 use Rattle.rules.specs.Job.{Bytes, word, rows, width, statesOffset, checked}
 use Rattle.rules.specs.Result.{recordsOffset, recordSize, rowsOffset, linksOffset}
@@ -18,7 +19,7 @@ sampledTypes block = word block 2
 -- The result block has at least 16 bytes, s ≤ t ≤ 128, 1 ≤ s, the job's m, the three offsets, and reaches to the links' offset.
 abbrev pub headerFits : ℕ → Bytes → ℕ → ℕ → Bool
 headerFits m block t s =
-    leb 16 (length block) && leb s t && leb t 128 && leb 1 s && eqb (word block 4) m
+    leb recordsOffset (length block) && leb s t && leb t mostTypes && leb 1 s && eqb (word block 4) m
     && eqb (word block 10) recordsOffset && eqb (word block 12) (rowsOffset t) && eqb (word block 14) (linksOffset t s m)
     && leb (linksOffset t s m) (length block)
 

@@ -6,6 +6,7 @@ use mathlib.Core.List.{List, [], _++_, map}
 use Prim.Native.Nat.{ℕ, zero, suc, _+_, _≤_, _<_}
 use lib.Dec.{ltb, eqb}
 use lib.ListN.{length}
+use Rattle.rules.specs.Sizes.{mostTypes}
 use Rattle.rules.specs.Job.{Row}
 use Rattle.rules.specs.Types.{Node, sampled}
 use Rattle.rules.specs.Links.{joinAll}
@@ -41,9 +42,9 @@ grown xs run =
 pub data PhaseOne (ws : List ℕ) (e : ℕ) : Run → Outcome → Type 0 where
   no-candidate : {run purged : Run} → Purges ws e run purged → offers ws e purged ≡ [] → PhaseOne ws e run (settled purged)
   no-room : {run purged : Run} → Purges ws e run purged → offers ws e purged ≢ [] →
-      128 < length (made purged) + length (fresh ws e purged) → PhaseOne ws e run (full (purged .rounds + 1))
+      mostTypes < length (made purged) + length (fresh ws e purged) → PhaseOne ws e run (full (purged .rounds + 1))
   round : {run purged : Run} {end : Outcome} → Purges ws e run purged → offers ws e purged ≢ [] →
-      length (made purged) + length (fresh ws e purged) ≤ 128 → PhaseOne ws e (grown (fresh ws e purged) purged) end → PhaseOne ws e run end
+      length (made purged) + length (fresh ws e purged) ≤ mostTypes → PhaseOne ws e (grown (fresh ws e purged) purged) end → PhaseOne ws e run end
 
 -- The same computed, with at most so many rounds. Each round makes a type, and 128 are never passed, so 129 are more than can be:
 -- proofs/Ends.antt shows that phaseOne does what the words above say.
@@ -54,11 +55,11 @@ phaseOneIn (suc rounds) ws e run =
     let candidates = offers ws e purged in
     let xs = added e candidates in
     let next = phaseOneIn rounds ws e (grown xs purged) in
-    let round = cond (ltb 128 (length (made purged) + length xs)) (full (purged .rounds + 1)) next in
+    let round = cond (ltb mostTypes (length (made purged) + length xs)) (full (purged .rounds + 1)) next in
     cond (eqb (length candidates) 0) (settled purged) round
 
 unfoldable pub phaseOne : List ℕ → ℕ → Run → Outcome
-phaseOne ws e run = phaseOneIn 129 ws e run
+phaseOne ws e run = phaseOneIn (suc mostTypes) ws e run
 
 -- Kept types, the links between them, the rounds that added a type.
 pub record Network : Type 0 where

@@ -6,6 +6,7 @@ use Prim.Native.Nat.{ℕ, _≤_}
 use lib.Dec.{eqb, ltb}
 use lib.ListN.{length, getD}
 use Rattle.graph.specs.Below.{gather, only, count, some}
+use Rattle.rules.specs.Sizes.{mostTypes}
 use Rattle.rules.specs.Job.{Row}
 use Rattle.rules.specs.declared.Origin.{Origin}
 use Rattle.rules.specs.declared.Origin.the-variants.{Sampled, Inferred}
@@ -70,7 +71,7 @@ sampled rs = map (sampledAt rs) (firsts rs)
 
 -- Over 128 sampled types: the row that is the 129th type.
 abbrev pub tooMany : List Row → Bool
-tooMany rs = ltb 128 (length (firsts rs))
+tooMany rs = ltb mostTypes (length (firsts rs))
 
 abbrev pub row129 : List Row → ℕ
-row129 rs = getD (firsts rs) 128 0
+row129 rs = getD (firsts rs) mostTypes 0

@@ -1,5 +1,48 @@
 // The room of document 01: its rules as definitions (specs/, a file for each of its headings) and the laws about them that
-// proofs cite (proofs/). It has no functions. Here stand the types that the definitions share with the code.
+// proofs cite (proofs/). It has no functions. Here stand the types and the sizes that the definitions share with the code.
+
+// Sizes, each under its name, once; specs/Sizes.antt and specs/Result.antt have the same.
+// A job: its most rows, their most characters, the bounds of weights and states, the six numbers of its head, the largest block.
+pub const MOST_ROWS: usize = 256;
+
+pub const MOST_WIDTH: usize = 64;
+
+pub const MOST_WEIGHT: usize = 1000;
+
+pub const FIRST_STATE: usize = 33;
+
+pub const LAST_STATE: usize = 126;
+
+pub const JOB_HEAD: usize = 12;
+
+pub const LARGEST_JOB: usize = JOB_HEAD + 2 * MOST_WIDTH + MOST_ROWS * MOST_WIDTH;
+
+// The types ever made, and the links that can lie between them.
+pub const MOST_TYPES: usize = 128;
+
+pub const MOST_LINKS: usize = MOST_TYPES * (MOST_TYPES - 1) / 2;
+
+// How rows and distances are stored: the bytes of a row, the cells of a line.
+pub const ROW: usize = MOST_WIDTH;
+
+pub const LINE: usize = MOST_TYPES;
+
+// The result block: where its records begin, the bytes of a record and of a link.
+pub const RECORDS_OFFSET: usize = 16;
+
+pub const RECORD_SIZE: usize = 6;
+
+pub const LINK_SIZE: usize = 6;
+
+// The least that may be lent. The result has room for all types, all but one of them inferred, and all links.
+pub const RESULT_AREA: usize = RECORDS_OFFSET
+    + RECORD_SIZE * MOST_TYPES
+    + (MOST_TYPES - 1) * MOST_WIDTH
+    + LINK_SIZE * MOST_LINKS;
+
+pub const STATE_AREA: usize = MOST_TYPES * ROW;
+
+pub const DISTANCE_AREA: usize = MOST_TYPES * LINE;
 
 // A type is either sampled, with its rows and first row, or inferred, with its round.
 pub enum Origin {

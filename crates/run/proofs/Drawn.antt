@@ -19,14 +19,14 @@ use Rattle.rules.specs.Purge.{Run, purge}
 use Rattle.rules.specs.Run.{phaseTwo}
 use Rattle.rules.specs.declared.Link.{Link}
 use Rattle.distances.specs.Area.{cellAt, Measures}
-use Rattle.links.specs.Marks.{marked, Tells}
+use Rattle.links.specs.Marks.{marked, TellsLinks}
 use Rattle.purge.specs.Holds.{Holds}
 use Rattle.purge.specs.Network.{linksIn, networkIn}
 use Rattle.purge.specs.declared.state.Held.{Held}
 use Rattle.purge.proofs.Back.{current-back}
 use Rattle.purge.proofs.Told.{rows-count}
 
-module _ (ws : List ℕ) (e : ℕ) (rs : List Row) {area : List ℕ} (measures : Measures ws rs area) (tells : Tells ws e rs area) where
+module _ (ws : List ℕ) (e : ℕ) (rs : List Row) {area : List ℕ} (measures : Measures ws rs area) (tells : TellsLinks ws e rs area) where
   -- A pair is marked exactly if the rules' test finds it feasible.
   marked-feasible : (i j : ℕ) → i < j → j < length rs → marked area i j ≡ feasible (apart ws rs) (spans (length rs) (apart ws rs)) e i j
   marked-feasible i j h l =
@@ -55,7 +55,7 @@ module _ (ws : List ℕ) (e : ℕ) (rs : List Row) {area : List ℕ} (measures :
 
 -- The network of a settled run, purged at epsilon 0.
 module _ {m : ℕ} {ws : List ℕ} (end : Run) {states : Bytes} {area : List ℕ} {held : Held}
-    (holds : Holds m ws (purge ws 0 end) states area held) (tells : Tells ws 0 (rowsOf (purge ws 0 end .current)) area)
+    (holds : Holds m ws (purge ws 0 end) states area held) (tells : TellsLinks ws 0 (rowsOf (purge ws 0 end .current)) area)
     (few : held .state .types ≤ 128) where
   pub network-told : networkIn m states area held ≡ phaseTwo ws end
   unfolding networkIn phaseTwo

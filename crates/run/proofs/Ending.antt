@@ -17,7 +17,7 @@ use Rattle.purge.specs.declared.state.Held.{Held}
 use Rattle.round.specs.declared.Turn.{Turn}
 use Rattle.run.specs.Begun.{refusedWith}
 use Rattle.run.specs.declared.start.Ended.{Ended}
-use Rattle.run.specs.Phases.{PhaseOneOver, Kept, PhasesOver}
+use Rattle.run.specs.Phases.{PhaseOneOver, NetworkHeld, PhasesOver}
 
 -- An outcome is one of two: a round that had no room, by its number, or a run.
 abbrev had-no-room : Outcome → Bool
@@ -90,7 +90,7 @@ module _ {weights : List ℕ} {states states′ states″ : Bytes} {area area′
   }
 
 -- What is kept are at most 128 types, as at most 128 were ever made.
-module _ {m : ℕ} {ws : List ℕ} {end : Run} {states : Bytes} {area : List ℕ} {r : Ended} (kept : Kept m ws end states area r) where
+module _ {m : ℕ} {ws : List ℕ} {end : Run} {states : Bytes} {area : List ℕ} {r : Ended} (kept : NetworkHeld m ws end states area r) where
   pub kept-few : length (purge ws 0 end .current) ≤ 128
   kept-few = omega (arith, kept .few, kept .holds .made-are, made-count (purge ws 0 end))
 

@@ -15,7 +15,7 @@ use Rattle.rules.specs.Run.{Outcome, settled, full}
 use Rattle.rules.specs.Call.{outcome}
 use Rattle.purge.proofs.Back.{holds-one}
 use Rattle.run.specs.declared.start.Ended.{Ended}
-use Rattle.run.specs.Phases.{Kept}
+use Rattle.run.specs.Phases.{NetworkHeld}
 use Rattle.run.specs.Ran.{Ran, runAnswer}
 use Rattle.run.proofs.Ending.{kept-few, types-few}
 
@@ -46,7 +46,7 @@ module _ {job states states′ : Bytes} {lent cells : ℕ} {area area′ : List 
       (s .states-are ∙ sym (t .states-are), s .area-is ∙ sym (t .area-is), p ∙ sym q)
 
   -- Else memory holds one run and tells its links.
-  settled-once : (end : Run) → Kept (width job) (weights job) end states area r → Kept (width job) (weights job) end states′ area′ r′ →
+  settled-once : (end : Run) → NetworkHeld (width job) (weights job) end states area r → NetworkHeld (width job) (weights job) end states′ area′ r′ →
       (states ≡ states′) × (area ≡ area′) × (r ≡ r′)
   settled-once end k l =
       let (s, c, held) = holds-one (k .holds) (k .tells) (l .holds) (l .tells) (kept-few k)

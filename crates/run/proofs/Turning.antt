@@ -10,13 +10,13 @@ use Rattle.rules.specs.Types.{rowsOf}
 use Rattle.rules.specs.Purge.{Run, purge}
 use Rattle.rules.specs.Run.{Outcome, full, PhaseOne, no-candidate, no-room, round}
 use Rattle.rules.proofs.Ends.{purges}
-use Rattle.links.specs.Marks.{Tells}
+use Rattle.links.specs.Marks.{TellsLinks}
 use Rattle.purge.specs.State.{epsilonOf}
 use Rattle.purge.specs.Holds.{Purged}
 use Rattle.purge.specs.declared.state.Held.{Held}
 use Rattle.round.specs.Rounded.{Carries, Rounded}
 use Rattle.round.specs.declared.Turn.{Turn}
-use Rattle.run.specs.Phases.{Safe, Turned, Settled, PhaseOneOver}
+use Rattle.run.specs.Phases.{Safe, Turned, PhaseOneSettled, PhaseOneOver}
 
 abbrev pub epsilonIn : Held → ℕ
 epsilonIn held = epsilonOf (held .state .phase)
@@ -37,7 +37,7 @@ module _ {weights : List ℕ} {states states₁ : Bytes} {area area₁ : List �
   }
 
   told : (m : ℕ) (ws : List ℕ) (run : Run) → Carries weights m ws run states area held →
-      Tells ws (epsilonIn purged) (rowsOf (purge ws (epsilonIn held) run .current)) area₁
+      TellsLinks ws (epsilonIn purged) (rowsOf (purge ws (epsilonIn held) run .current)) area₁
   told m ws run c = rw same-epsilon (p .tells m ws run (c .holds))
 
   pub safe-purged : Safe weights states₁ area₁ purged
@@ -94,7 +94,7 @@ pub record Going (weights : List ℕ) (states₀ : Bytes) (area₀ : List ℕ) (
   pub phase-stays : turn .held .state .phase ≡ held₀ .state .phase
   pub none-if-full : turn .full ≡ true → turn .added ≡ 0
   pub settles : (m : ℕ) (ws : List ℕ) (run : Run) → Carries weights m ws run states₀ area₀ held₀ → turn .added ≡ 0 → turn .full ≡ false →
-      Settled weights m ws (epsilonIn held₀) run states area (turn .held)
+      PhaseOneSettled weights m ws (epsilonIn held₀) run states area (turn .held)
   pub crowds : (m : ℕ) (ws : List ℕ) (run : Run) → Carries weights m ws run states₀ area₀ held₀ → turn .full ≡ true →
       PhaseOne ws (epsilonIn held₀) run (full (turn .held .state .rounds + 1))
   pub reaches : (m : ℕ) (ws : List ℕ) (run : Run) → Carries weights m ws run states₀ area₀ held₀ → 0 < turn .added →

@@ -4,6 +4,7 @@ use mathlib.Core.Bool.{true, false}
 use mathlib.Core.List.{List}
 use Prim.Native.Nat.{ℕ, _≤_}
 use lib.ListN.{length, replicate}
+use Rattle.rules.specs.Sizes.{mostWidth, mostTypes}
 use Rattle.rules.specs.Answers.{when_refuse_else_, passed}
 use Rattle.rules.specs.Job.{Bytes, width, epsilon, weights, jobRows}
 use Rattle.rules.specs.Types.{tooMany, row129}
@@ -12,7 +13,7 @@ use Rattle.rules.specs.Call.{padded}
 use Rattle.rules.specs.declared.Answer.{Answer}
 use Rattle.rules.specs.declared.Answer.the-variants.{Types}
 use Rattle.types.specs.State.{blank}
-use Rattle.distances.specs.Area.{Written, New, storedApart}
+use Rattle.distances.specs.Area.{CellsWritten, New, storedApart}
 use Rattle.purge.specs.declared.state.Phase.the-variants.{One, Two}
 use Rattle.purge.specs.Holds.{Holds}
 use Rattle.run.specs.declared.start.Ended.{Ended}
@@ -21,7 +22,7 @@ use Rattle.run.specs.declared.start.Ended.{Ended}
 abbrev pub refusedWith : Answer → Ended
 refusedWith a = record {
   answer = a;
-  held = record { state = record { types = 0; made = 0; rounds = 0; phase = Two }; kinds = replicate 128 blank };
+  held = record { state = record { types = 0; made = 0; rounds = 0; phase = Two }; kinds = replicate mostTypes blank };
 }
 
 -- and both areas are zero.
@@ -33,9 +34,9 @@ pub record Cleared (states : Bytes) (area : List ℕ) (lent cells : ℕ) : Type 
 -- of the types all of the distance area is zero.
 pub record First (job : Bytes) (cells : ℕ) (states : Bytes) (area : List ℕ) (r : Ended) : Type 0 where
   pub phase-is : r .held .state .phase ≡ One (epsilon job)
-  pub few : r .held .state .made ≤ 128
+  pub few : r .held .state .made ≤ mostTypes
   pub holds : Holds (width job) (weights job) (start (jobRows job)) states area (r .held)
-  pub measured : Written (New 0 (r .held .state .types)) (storedApart (padded 64 (weights job)) states) (replicate cells 0) area
+  pub measured : CellsWritten (New 0 (r .held .state .types)) (storedApart (padded mostWidth (weights job)) states) (replicate cells 0) area
 
 -- TYPES, and both areas are zero; or the run begins.
 pub record Begun (job : Bytes) (lent cells : ℕ) (states : Bytes) (area : List ℕ) (r : Ended) : Type 0 where

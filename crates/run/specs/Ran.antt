@@ -15,7 +15,7 @@ use Rattle.rules.specs.declared.Answer.the-variants.{Types, Room}
 use Rattle.purge.specs.Network.{networkIn}
 use Rattle.run.specs.Begun.{refusedWith, Cleared}
 use Rattle.run.specs.declared.start.Ended.{Ended}
-use Rattle.run.specs.Phases.{Kept}
+use Rattle.run.specs.Phases.{NetworkHeld}
 
 -- TYPES, or ROOM with the round's number, or none of the two.
 abbrev pub ranTo : Outcome → Answer
@@ -33,4 +33,4 @@ pub record Ran (job : Bytes) (lent cells : ℕ) (states : Bytes) (area : List �
   pub answered : r .answer ≡ runAnswer job
   pub refuses : number (runAnswer job) ≢ 0 → (r ≡ refusedWith (runAnswer job)) × Cleared states area lent cells
   pub network : number (runAnswer job) ≡ 0 → (end : Run) → outcome job ≡ settled end → networkIn (width job) states area (r .held) ≡ phaseTwo (weights job) end
-  pub kept : number (runAnswer job) ≡ 0 → (end : Run) → outcome job ≡ settled end → Kept (width job) (weights job) end states area r
+  pub kept : number (runAnswer job) ≡ 0 → (end : Run) → outcome job ≡ settled end → NetworkHeld (width job) (weights job) end states area r

@@ -6,6 +6,7 @@ pub mod start;
 ghost use mathlib.Core.Path.{_≡_};
 ghost use Prim.Native.Nat.{_≤_};
 ghost use lib.ListN.{length};
+ghost use Rattle.rules.specs.Sizes.{stateArea, distanceArea};
 ghost use Rattle.rules.specs.Answers.{number};
 ghost use Rattle.rules.specs.Job.{checked};
 ghost use Rattle.run.specs.Phases.{Safe, Turned, PhaseOneOver, PhasesOver};
@@ -72,7 +73,7 @@ fn phases(states: &mut [u8], area: &mut [u16], weights: &[u16], held: Held) -> E
 
 // The run of a job that passed checks 2 to 7.
 pub fn run(job: &[u8], states: &mut [u8], area: &mut [u16]) -> Ended
-    requires { ⌜ (number (checked (now job)) ≡ 0) × (8192 ≤ length (now states)) × (16384 ≤ length (now area)) ⌝ }
+    requires { ⌜ (number (checked (now job)) ≡ 0) × (stateArea ≤ length (now states)) × (distanceArea ≤ length (now area)) ⌝ }
     ensures { λ r. ⌜ Ran (now (job .entry)) (length (now (states .entry))) (length (now (area .entry))) (now (states .exit)) (now (area .exit)) r ⌝ }
 {
     let header = header_of(job);

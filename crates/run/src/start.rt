@@ -1,9 +1,10 @@
-// The room of the beginning: the sampled types of a job lie in memory with their distances, or there are too many of them. It writes
+// The corner of the beginning: the sampled types of a job lie in memory with their distances, or there are too many of them. It writes
 // both areas from their first cell to their last; the job is only read.
 
 ghost use mathlib.Core.Path.{_≡_};
 ghost use Prim.Native.Nat.{_≤_};
 ghost use lib.ListN.{length};
+ghost use Rattle.rules.specs.Sizes.{mostWidth, stateArea, distanceArea};
 ghost use Rattle.rules.specs.Answers.{number};
 ghost use Rattle.rules.specs.Job.{weights as weightsOf, checked};
 ghost use Rattle.rules.specs.Call.{padded};
@@ -46,7 +47,7 @@ pub fn refused(answer: Answer) -> Ended
 
 // The run of a job that passed checks 2 to 7 begins, in Phase I and before its first link; or the refusal TYPES.
 pub fn begin(job: &[u8], states: &mut [u8], area: &mut [u16], weights: &[u16]) -> Ended
-    requires { ⌜ (number (checked (now job)) ≡ 0) × (now weights ≡ padded 64 (weightsOf (now job))) × (8192 ≤ length (now states)) × (16384 ≤ length (now area)) ⌝ }
+    requires { ⌜ (number (checked (now job)) ≡ 0) × (now weights ≡ padded mostWidth (weightsOf (now job))) × (stateArea ≤ length (now states)) × (distanceArea ≤ length (now area)) ⌝ }
     ensures { λ r. ⌜ Begun (now (job .entry)) (length (now (states .entry))) (length (now (area .entry))) (now (states .exit)) (now (area .exit)) r ⌝ }
 {
     clear_bytes(states);

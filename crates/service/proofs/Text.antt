@@ -21,10 +21,10 @@ use Rattle.readback.proofs.Result.{few-links, read-result, header-matches, link
 use Rattle.text.specs.Lines.{legible}
 use Rattle.text.specs.Printed.{printedUsed, textRoom, textOf, briefRoom, printedAs, printedBytes, TextLeft, briefAs, BriefLeft}
 use Rattle.text.specs.declared.Printed.{Printed}
-use Rattle.text.specs.declared.Printed.the-variants.{Done, Room}
+use Rattle.text.specs.declared.Printed.the-variants.{Done, Short}
 use Rattle.text.proofs.Room.{every-suffices}
 use Rattle.network.specs.Called.{lentBy, Called}
-use Rattle.service.specs.Served.{AnsweredJob, printedIn, ServedText, shown, Shown, TextOnly}
+use Rattle.service.specs.Served.{AnsweredJob, printedIn, shown, Shown, TextOnly}
 
 module _ (lent : Lent) (job : Bytes) where
   pub text-is : textOf job (resultAfter lent job) (answer lent job) ≡ printed lent job
@@ -72,12 +72,12 @@ module _ (lent : Lent) (job : Bytes) where
   abbrev Brief : ℕ → Bytes → Printed → Type 0
   Brief n out r = BriefLeft job (resultAfter lent job) (answer lent job) n out r
 
-  brief-as : (n : ℕ) → briefAs n job (resultAfter lent job) (answer lent job) ≡ cond (ltb n room) Room (Done (length (printed lent job)))
+  brief-as : (n : ℕ) → briefAs n job (resultAfter lent job) (answer lent job) ≡ cond (ltb n room) Short (Done (length (printed lent job)))
   unfolding briefAs
   brief-as n = rw (never-block, text-is)
 
   -- Where there is no lack of room, all of the text is printed.
-  pub brief-whole : {n : ℕ} {out : Bytes} {r : Printed} → Brief n out r → r ≢ Room →
+  pub brief-whole : {n : ℕ} {out : Bytes} {r : Printed} → Brief n out r → r ≢ Short →
       (r ≡ Done (length (printed lent job))) × (out ≡ padded n (printed lent job))
   brief-whole {n} {out} {r} b f = go (ltb n room) refl
     where
@@ -86,7 +86,7 @@ module _ (lent : Lent) (job : Bytes) where
       go false e = (b .answered ∙ brief-as n ∙ rw e, b .left ∙ rw (brief-as n, e, text-is))
 
   -- There is none where there is room for every text.
-  pub brief-roomy : {n : ℕ} {out : Bytes} {r : Printed} → Brief n out r → textRoom ≤ n → r ≢ Room
+  pub brief-roomy : {n : ℕ} {out : Bytes} {r : Printed} → Brief n out r → textRoom ≤ n → r ≢ Short
   brief-roomy {n} {r = r} b h e =
       let l : number (answer lent job) ≡ 0 → legible job (resultAfter lent job) ≡ true = (λ z. let (net, is) = answered lent job .0 z in legible-block net is) in
       let done : r ≡ Done (length (printed lent job)) =
@@ -103,31 +103,18 @@ module _ (lent : Lent) (job : Bytes) {r : Answer} {result : Bytes} (said : r ≡
   text-left =
       t .left ∙ ap₂ (λ (q : Printed) (xs : Bytes). padded n (printedBytes q xs)) (sym (t .answered)) (rw (said, is) (text-is lent job))
 
--- The call, and the text of what it leaves.
-pub served-text : {job result states out result′ states′ out′ : Bytes} {distances distances′ : List ℕ} {links links′ : List Link} {r : Answer} {p : Printed} →
-    Called job result states distances links r result′ states′ distances′ links′ → TextLeft job result′ r (length out) out′ p →
-    ServedText job result states distances links out p result′ states′ distances′ links′ out′
-served-text {job} {result} {states} {distances = distances} {links = links} c t =
-    let lent = lentBy result states distances links in
-    let s = c .served in
-    record {
-      called = rw (s .answered) at c;
-      answered = text-said lent job (s .answered) (s .result-left) t;
-      left = text-left lent job (s .answered) (s .result-left) t;
-    }
-
 -- The text, by its length.
 shown-used : (lent : ℕ) (xs : Bytes) → printedUsed (printedIn lent xs) ≡ length (shown lent xs)
 shown-used lent xs = go (ltb lent textRoom)
   where
-    go : (t : Bool) → printedUsed (cond t Room (Done (length xs))) ≡ length (cond t [] xs)
+    go : (t : Bool) → printedUsed (cond t Short (Done (length xs))) ≡ length (cond t [] xs)
     go true = refl
     go false = refl
 
 shown-bytes : (lent : ℕ) (xs : Bytes) → printedBytes (printedIn lent xs) xs ≡ shown lent xs
 shown-bytes lent xs = go (ltb lent textRoom)
   where
-    go : (t : Bool) → printedBytes (cond t Room (Done (length xs))) xs ≡ cond t [] xs
+    go : (t : Bool) → printedBytes (cond t Short (Done (length xs))) xs ≡ cond t [] xs
     go true = refl
     go false = refl
 

@@ -4,8 +4,8 @@ use Prim.Native.Nat.{ℕ}
 use Rattle.rules.specs.Job.{Bytes}
 use Rattle.rules.specs.Lent.{least}
 use Rattle.rules.specs.Text.{printed}
-use Rattle.fasta.specs.Answers.{madeNumber, madePlace, refuses}
-use Rattle.fasta.specs.Refusals.{measured}
+use Rattle.fasta.specs.Answers.{conversionNumber, conversionPlace, refuses}
+use Rattle.fasta.specs.Refusals.{checkedText}
 use Rattle.fasta.specs.Block.{jobOf}
 use Rattle.text.specs.Printed.{refusalOf}
 use Rattle.service.specs.Served.{Shown}
@@ -14,8 +14,8 @@ use Rattle.service.specs.Served.{Shown}
 -- memory that may be lent. The job has memory enough, so 20 is never given.
 unfoldable pub fastaPrinted : ℕ → Bytes → Bytes
 fastaPrinted epsilon text =
-    let made = measured text in
-    cond (refuses made) (refusalOf (madeNumber made) (madePlace made)) (printed least (jobOf epsilon text))
+    let conversion = checkedText text in
+    cond (refuses conversion) (refusalOf (conversionNumber conversion) (conversionPlace conversion)) (printed least (jobOf epsilon text))
 
 -- The text alone, and its length.
 abbrev pub FastaText : Bytes → ℕ → Bytes → ℕ → Bytes → Type 0

@@ -1,24 +1,23 @@
--- A job is answered, or served and printed: the call's own promise, and the text that document 01 prints.
+-- A job is answered, and its answer printed: what the call promises, and the text that document 01 prints.
 use mathlib.Core.Path.{_≡_}
 use mathlib.Core.Bool.{cond}
-use mathlib.Core.List.{List, []}
+use mathlib.Core.List.{[]}
 use Prim.Native.Nat.{ℕ, _≤_}
 use lib.Dec.{ltb}
 use lib.ListN.{length}
+use Rattle.rules.specs.Sizes.{mostLinks, stateArea, distanceArea}
 use Rattle.rules.specs.Job.{Bytes}
 use Rattle.rules.specs.Lent.{Lent, least}
 use Rattle.rules.specs.Call.{answer, padded, resultAfter}
 use Rattle.rules.specs.Text.{printed}
 use Rattle.rules.specs.declared.Answer.{Answer}
-use Rattle.rules.specs.declared.Link.{Link}
-use Rattle.text.specs.Printed.{textRoom, printedBytes}
+use Rattle.text.specs.Printed.{textRoom}
 use Rattle.text.specs.declared.Printed.{Printed}
-use Rattle.text.specs.declared.Printed.the-variants.{Done, Room}
-use Rattle.network.specs.Called.{lentBy, Called}
+use Rattle.text.specs.declared.Printed.the-variants.{Done, Short}
 
 -- A result of so many bytes, and of all else the least that may be lent.
 abbrev pub leastBeside : ℕ → Lent
-leastBeside n = record { result = n; states = 8192; distances = 16384; links = 8128 }
+leastBeside n = record { result = n; states = stateArea; distances = distanceArea; links = mostLinks }
 
 -- The answer, and what is left in the result.
 pub record AnsweredJob (job result : Bytes) (r : Answer) (result′ : Bytes) : Type 0 where
@@ -27,12 +26,7 @@ pub record AnsweredJob (job result : Bytes) (r : Answer) (result′ : Bytes) : T
 
 -- A text in memory of some length: there is room for every text, or nothing is written.
 abbrev pub printedIn : ℕ → Bytes → Printed
-printedIn lent xs = cond (ltb lent textRoom) Room (Done (length xs))
-
-pub record ServedText (job result states : Bytes) (distances : List ℕ) (links : List Link) (out : Bytes) (r : Printed) (result′ states′ : Bytes) (distances′ : List ℕ) (links′ : List Link) (out′ : Bytes) : Type 0 where
-  pub called : Called job result states distances links (answer (lentBy result states distances links) job) result′ states′ distances′ links′
-  pub answered : r ≡ printedIn (length out) (printed (lentBy result states distances links) job)
-  pub left : out′ ≡ padded (length out) (printedBytes r (printed (lentBy result states distances links) job))
+printedIn lent xs = cond (ltb lent textRoom) Short (Done (length xs))
 
 -- A text alone, and its length: nothing where there is no room for every text.
 abbrev pub shown : ℕ → Bytes → Bytes

@@ -1,36 +1,24 @@
 // The room of the whole service: a job is answered and its answer printed into memory that is lent. What the programs do, but for reading
 // and writing.
 
-pub mod fasta_service;
+pub mod from_fasta;
 
 ghost use Rattle.network.specs.Called.{Called};
-ghost use Rattle.service.specs.Served.{AnsweredJob, ServedText, TextOnly};
+ghost use Rattle.service.specs.Served.{AnsweredJob, TextOnly};
 use network::call;
 use rules::Answer;
+use rules::DISTANCE_AREA;
 use rules::Link;
-use text::Printed;
+use rules::MOST_LINKS;
+use rules::RESULT_AREA;
+use rules::STATE_AREA;
 use text::tell_text;
 use text::text;
-
-// The call, and the text of what it leaves.
-pub fn serve(
-    job: &[u8],
-    result: &mut [u8],
-    states: &mut [u8],
-    distances: &mut [u16],
-    links: &mut [Link],
-    out: &mut [u8],
-) -> Printed
-    ensures { λ r. ⌜ ServedText (now (job .entry)) (now (result .entry)) (now (states .entry)) (now (distances .entry)) (now (links .entry)) (now (out .entry)) r (now (result .exit)) (now (states .exit)) (now (distances .exit)) (now (links .exit)) (now (out .exit)) ⌝ }
-{
-    let answer = call(job, result, states, distances, links);
-    text(job, result, answer, out)
-}
 
 // What a call with a table by value leaves: the answer, and the table.
 pub struct Owned {
     pub answer: Answer,
-    pub table: [Link; 8128],
+    pub table: [Link; MOST_LINKS],
 }
 
 // The call for those who have a table of their own: it is lent to the call and handed back.
@@ -39,7 +27,7 @@ pub fn call_with(
     result: &mut [u8],
     states: &mut [u8],
     distances: &mut [u16],
-    table: [Link; 8128],
+    table: [Link; MOST_LINKS],
 ) -> Owned
     ensures { λ r. ⌜ Called (now (job .entry)) (now (result .entry)) (now (states .entry)) (now (distances .entry)) table (r .answer) (now (result .exit)) (now (states .exit)) (now (distances .exit)) (r .table) ⌝ }
 {
@@ -53,14 +41,14 @@ pub fn call_with(
 pub fn answer_job(job: &[u8], result: &mut [u8]) -> Answer
     ensures { λ r. ⌜ AnsweredJob (now (job .entry)) (now (result .entry)) r (now (result .exit)) ⌝ }
 {
-    let mut states = [0u8; 8192];
-    let mut distances = [256u16; 16384];
+    let mut states = [0u8; STATE_AREA];
+    let mut distances = [256u16; DISTANCE_AREA];
     let some = Link {
         low: 256,
         high: 256,
         length: 256,
     };
-    let table = [some; 8128];
+    let table = [some; MOST_LINKS];
     let owned = call_with(job, result, &mut states, &mut distances, table);
     owned.answer
 }
@@ -69,7 +57,7 @@ pub fn answer_job(job: &[u8], result: &mut [u8]) -> Answer
 pub fn answer_text(job: &[u8], out: &mut [u8]) -> usize
     ensures { λ r. ⌜ TextOnly (now (job .entry)) (now (out .entry)) r (now (out .exit)) ⌝ }
 {
-    let mut result = [0u8; 57680];
+    let mut result = [0u8; RESULT_AREA];
     let answer = answer_job(job, &mut result);
     let printed = text(job, &result, answer, out);
     let told = tell_text(printed);

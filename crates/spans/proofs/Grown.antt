@@ -13,10 +13,10 @@ use borrow.Author.Tests.{eq-eqb}
 use Rattle.graph.specs.Spans.{grid, passing, spansBy, spans}
 use Rattle.graph.proofs.Below.{table-ext, count-all}
 use Rattle.graph.proofs.Growing.{span-sym}
-use Rattle.distances.specs.Area.{cellAt, Written, Line}
+use Rattle.distances.specs.Area.{cellAt, CellsWritten, Line}
 use Rattle.distances.proofs.Area.{cell-kept}
 use Rattle.spans.specs.Tree.{between, Mirror, opposite, Spanned}
-use Rattle.spans.specs.Growth.{Full, Filled, nearer, Least, Fits, Found, Grown, Completed}
+use Rattle.spans.specs.Growth.{Full, Filled, nearer, Least, IsOutside, NearestFound, Grown, Completed}
 use Rattle.spans.proofs.Growing.{between-sym, Out, Listed, Reached, out-of, outside, some-left, none-left, listed-more, reached-more}
 use Rattle.spans.proofs.Lines.{Lines, lines-more}
 
@@ -113,10 +113,10 @@ module _ {n wide size v step step′ v′ : ℕ} {area before spans spans′ ord
     (few : n ≤ wide) (room : wide ≤ 128) (full : Full n area) (small : (p : ℕ) → at area p ≤ 65535) (more : size < n)
     (g : Growing n size v step area before spans order steps near inside reach)
     (f : Filled wide (λ u. max (at reach u) step) reach reach′)
-    (x : Written (Line v wide) (λ i u. max (at reach u) step) spans spans′)
+    (x : CellsWritten (Line v wide) (λ i u. max (at reach u) step) spans spans′)
     (a : Filled wide (nearer v area near) near near′)
     (m : Least wide (λ u. max (nearer v area near u) (at (set inside v 65535) u)) step′)
-    (s : Found wide near′ (set inside v 65535) step′ v′) where
+    (s : NearestFound wide near′ (set inside v 65535) step′ v′) where
   abbrev inside′ : List ℕ
   inside′ = set inside v 65535
 
@@ -155,7 +155,7 @@ module _ {n wide size v step step′ v′ : ℕ} {area before spans spans′ ord
   lowest u h e = omega (arith, m .at-most u (omega arith), a .holds u (omega arith))
 
   -- While types are left, one of them is as near as the least.
-  fits : size + 1 < n → (u : ℕ) × (u < wide) × Fits (at near′ u) (at inside′ u) step′
+  fits : size + 1 < n → (u : ℕ) × (u < wide) × IsOutside (at near′ u) (at inside′ u) step′
   fits l =
       let (y, hy, e) = some-left listed′ l in
       let low = lowest y hy e in
@@ -205,7 +205,7 @@ module _ {n wide size v step step′ v′ : ℕ} {area before spans spans′ ord
   }
 
 -- Where the mirror cells hold the distances, lines are full, and distances are as they were.
-module _ {n : ℕ} {before area : List ℕ} (few : n ≤ 128) (w : Written (Mirror n) (opposite before) before area) where
+module _ {n : ℕ} {before area : List ℕ} (few : n ≤ 128) (w : CellsWritten (Mirror n) (opposite before) before area) where
   pub full-mirrored : Full n area
   full-mirrored i j l h = w .holds i j (l, h) ∙ sym (cell-kept w (λ a b t. omega arith) j i (omega arith) (λ t. omega arith))
 

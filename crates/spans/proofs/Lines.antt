@@ -8,7 +8,7 @@ use native.Mathlib.Decide.{ℕ-discrete, decLt}
 use lib.ListN.{length, getD, set, replicate, getD-replicate}
 use lib.Seq.{getD-set-same, getD-set-other}
 use borrow.Author.Count.{below-more}
-use Rattle.distances.specs.Area.{cellAt, Written, Line}
+use Rattle.distances.specs.Area.{cellAt, CellsWritten, Line}
 use Rattle.distances.proofs.Area.{cell-kept}
 use Rattle.spans.specs.Growth.{Filled, longest, Lined, Completed}
 use Rattle.spans.proofs.Stretch.{longest-none, longest-by, longest-more, longest-within}
@@ -26,7 +26,7 @@ module _ {n wide size v step : ℕ} {o o′ w w′ : ℕ → ℕ} {reach reach�
     (long : length reach ≡ 128) (types : (k : ℕ) → k < size → o k < n) (hv : v < n) (free : Out o size v)
     (l : Lines n size o w reach spans)
     (f : Filled wide (λ u. max (getD reach u 0) step) reach reach′)
-    (x : Written (Line v wide) (λ i u. max (getD reach u 0) step) spans spans′)
+    (x : CellsWritten (Line v wide) (λ i u. max (getD reach u 0) step) spans spans′)
     (same : (k : ℕ) → k < size → o′ k ≡ o k) (here : o′ size ≡ v)
     (taken : (k : ℕ) → k < size → w′ k ≡ w k) (by : w′ size ≡ step) where
   -- The lines of the types before are as they were.
@@ -100,7 +100,7 @@ module _ {n wide k step : ℕ} {o w : ℕ → ℕ} {reach reach′ spans spans�
     (small : (i : ℕ) → w i ≤ 65535) (at : w k ≡ step) (hk : 0 < k) (inside : k < n)
     (s : Settling n (k + 1) o w reach spans)
     (f : Filled wide (stepped reach (o k) step) (set reach (o k) 0) reach′)
-    (x : Written (Line (o (k - 1)) wide) (λ i u. min (cellAt spans i u) (stepped reach (o k) step u)) spans spans′) where
+    (x : CellsWritten (Line (o (k - 1)) wide) (λ i u. min (cellAt spans i u) (stepped reach (o k) step u)) spans spans′) where
   apart : (i j : ℕ) → i < n → j < n → i ≢ j → o i ≢ o j
   apart i j hi hj ne e = elim (decLt i j) [ yes l ↦ once i j l hj e | no m ↦ once j i (omega arith) hi (sym e) ]
 

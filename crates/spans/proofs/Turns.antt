@@ -9,10 +9,10 @@ use native.Mathlib.Decide.{decLt}
 use lib.ListN.{length, getD, set, length-set}
 use lib.Seq.{getD-set-same, getD-set-other}
 use borrow.Author.Count.{below-more}
-use Rattle.distances.specs.Area.{Written, Line}
+use Rattle.distances.specs.Area.{CellsWritten, Line}
 use Rattle.distances.proofs.Area.{Cell, cell-kept, written-as, written-both}
 use Rattle.spans.specs.Tree.{Mirror, opposite}
-use Rattle.spans.specs.Growth.{Part, Filled, Least, Placed, Found}
+use Rattle.spans.specs.Growth.{LinePart, Filled, Least, OutsideAt, NearestFound}
 
 -- No number is written, and one more.
 module _ {f : ℕ → ℕ} {before : List ℕ} where
@@ -47,11 +47,11 @@ module _ {f : ℕ → ℕ} where
 
 -- No type is found among none, and the last one that fits among one more.
 module _ {near inside : List ℕ} {x : ℕ} where
-  pub found-none : Found 0 near inside x 0
+  pub found-none : NearestFound 0 near inside x 0
   found-none = record { to = omega arith; fits = λ u h. absurd (not-suc-le-zero h) }
 
-  pub found-more : {k r p : ℕ} → Found k near inside x r → Placed (getD near k 0) (getD inside k 0) x k p →
-      Found (k + 1) near inside x (max p r)
+  pub found-more : {k r p : ℕ} → NearestFound k near inside x r → OutsideAt (getD near k 0) (getD inside k 0) x k p →
+      NearestFound (k + 1) near inside x (max p r)
   found-more {k} {r} {p} f =
       let to = f .to in
       ⊎-elim
@@ -64,13 +64,13 @@ module _ {near inside : List ℕ} {x : ℕ} where
       }))
 
 -- One cell more of a part of a line, a part more of a line, and the mirror cells of one type more.
-pub part-more : (j from to a b : ℕ) → from ≤ to → (Part j from to a b ⊎ Cell j to a b) ↔ Part j from (to + 1) a b
+pub part-more : (j from to a b : ℕ) → from ≤ to → (LinePart j from to a b ⊎ Cell j to a b) ↔ LinePart j from (to + 1) a b
 part-more j from to a b h = (
   ⊎-elim (λ t. (t .0, t .1, omega arith)) (λ t. (t .0, omega arith, omega arith)),
   λ t. elim (decLt b to) [ yes l ↦ inl (t .0, t .1, l) | no other ↦ inr (t .0, omega arith) ],
 )
 
-part-of-line : (j from to a b : ℕ) → from ≤ to → (Line j from a b ⊎ Part j from to a b) ↔ Line j to a b
+part-of-line : (j from to a b : ℕ) → from ≤ to → (Line j from a b ⊎ LinePart j from to a b) ↔ Line j to a b
 part-of-line j from to a b h = (
   ⊎-elim (λ t. (t .0, omega arith)) (λ t. (t .0, t .2)),
   λ t. elim (decLt b from) [ yes l ↦ inl (t .0, l) | no other ↦ inr (t .0, omega arith, t .1) ],
@@ -84,10 +84,10 @@ mirror-more n a b = (
 
 -- The mirror cells of a part of a line more, and of a line more: what stands opposite has not changed.
 pub part-mirrored : {j from to : ℕ} {before mid after : List ℕ} → j < 128 → from ≤ to → to ≤ j →
-    Written (Line j from) (opposite before) before mid → Written (Part j from to) (opposite mid) mid after →
-    Written (Line j to) (opposite before) before after
+    CellsWritten (Line j from) (opposite before) before mid → CellsWritten (LinePart j from to) (opposite mid) mid after →
+    CellsWritten (Line j to) (opposite before) before after
 part-mirrored {j} {from} {to} {before} {mid} hj h l w x =
-    let same : (a b : ℕ) → Part j from to a b → opposite mid a b ≡ opposite before a b =
+    let same : (a b : ℕ) → LinePart j from to a b → opposite mid a b ≡ opposite before a b =
     λ a b t. cell-kept w (λ i k s. omega arith) b a (omega arith) (λ s. omega arith) in
     written-as
     (written-both w (written-as x (λ a b. (λ t. t, λ t. t)) same) (λ i k t. omega arith) (λ i k t. omega arith)
@@ -95,8 +95,8 @@ part-mirrored {j} {from} {to} {before} {mid} hj h l w x =
     (λ a b. part-of-line j from to a b h) (λ a b t. refl)
 
 pub line-mirrored : {n : ℕ} {before mid after : List ℕ} → n < 128 →
-    Written (Mirror n) (opposite before) before mid → Written (Line n n) (opposite mid) mid after →
-    Written (Mirror (n + 1)) (opposite before) before after
+    CellsWritten (Mirror n) (opposite before) before mid → CellsWritten (Line n n) (opposite mid) mid after →
+    CellsWritten (Mirror (n + 1)) (opposite before) before after
 line-mirrored {n} {before} {mid} h w x =
     let same : (a b : ℕ) → Line n n a b → opposite mid a b ≡ opposite before a b =
     λ a b t. cell-kept w (λ i k s. omega arith) b a (omega arith) (λ s. omega arith) in

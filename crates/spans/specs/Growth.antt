@@ -7,12 +7,13 @@ use mathlib.Core.List.{List}
 use Prim.Native.Nat.{ℕ, zero, suc, _≤_, _<_, min, max}
 use lib.Dec.{leb}
 use lib.ListN.{length, getD}
+use Rattle.rules.specs.Sizes.{mostTypes}
 use Rattle.distances.specs.Area.{cellAt}
 use Rattle.spans.specs.Tree.{spanOf}
 
 -- The cells of line j from `from` to `to`.
-abbrev pub Part : ℕ → ℕ → ℕ → ℕ → ℕ → Type 0
-Part j from to a b = (a ≡ j) × (from ≤ b) × (b < to)
+abbrev pub LinePart : ℕ → ℕ → ℕ → ℕ → ℕ → Type 0
+LinePart j from to a b = (a ≡ j) × (from ≤ b) × (b < to)
 
 -- The mirror cells of n types hold their distances.
 abbrev pub Full : ℕ → List ℕ → Type 0
@@ -34,16 +35,16 @@ pub record Least (k : ℕ) (f : ℕ → ℕ) (r : ℕ) : Type 0 where
   pub taken : (r ≡ 65535) ⊎ ((u : ℕ) × (u < k) × (r ≡ f u))
 
 -- A type outside at distance x, and type u if it is one, else 0.
-abbrev pub Fits : ℕ → ℕ → ℕ → Type 0
-Fits near inside x = (near ≡ x) × (inside ≡ 0)
+abbrev pub IsOutside : ℕ → ℕ → ℕ → Type 0
+IsOutside near inside x = (near ≡ x) × (inside ≡ 0)
 
-abbrev pub Placed : ℕ → ℕ → ℕ → ℕ → ℕ → Type 0
-Placed near inside x u r = (Fits near inside x × (r ≡ u)) ⊎ ((Fits near inside x → ⊥) × (r ≡ 0))
+abbrev pub OutsideAt : ℕ → ℕ → ℕ → ℕ → ℕ → Type 0
+OutsideAt near inside x u r = (IsOutside near inside x × (r ≡ u)) ⊎ ((IsOutside near inside x → ⊥) × (r ≡ 0))
 
 -- If one of the first k types is outside at distance x, type r is such a one.
-pub record Found (k : ℕ) (near inside : List ℕ) (x r : ℕ) : Type 0 where
+pub record NearestFound (k : ℕ) (near inside : List ℕ) (x r : ℕ) : Type 0 where
   pub to : r ≤ k
-  pub fits : (u : ℕ) → u < k → Fits (getD near u 0) (getD inside u 0) x → (r < k) × Fits (getD near r 0) (getD inside r 0) x
+  pub fits : (u : ℕ) → u < k → IsOutside (getD near u 0) (getD inside u 0) x → (r < k) × IsOutside (getD near r 0) (getD inside r 0) x
 
 -- The longest of the steps behind a, up to b.
 unfoldable pub longest : (ℕ → ℕ) → ℕ → ℕ → ℕ
@@ -64,8 +65,8 @@ pub record Lined (n : ℕ) (order steps spans : List ℕ) : Type 0 where
 -- All of n types are in the tree, and their spans are their stretches.
 pub record Grown (n : ℕ) (area before spans order steps : List ℕ) : Type 0 where
   pub size : length spans ≡ length before
-  pub order-size : length order ≡ 128
-  pub steps-size : length steps ≡ 128
+  pub order-size : length order ≡ mostTypes
+  pub steps-size : length steps ≡ mostTypes
   pub lined : Lined n order steps spans
   pub all : (u : ℕ) → u < n → (k : ℕ) × (k < n) × (getD order k 0 ≡ u)
   pub spanned : (i k : ℕ) → i < k → k < n → spanOf n area (getD order i 0) (getD order k 0) ≡ stretch steps i k

@@ -5,6 +5,7 @@ use mathlib.Core.List.{List}
 use Prim.Native.Nat.{ℕ, _+_, _*_, _<_, min, max}
 use lib.ListN.{length}
 use Rattle.graph.specs.Spans.{cell, spans}
+use Rattle.rules.specs.Sizes.{lineSize}
 use Rattle.distances.specs.Area.{cellAt}
 
 -- The distance of two types in the distance area, whichever is the lower, and their mirror cell.
@@ -12,7 +13,7 @@ abbrev pub between : List ℕ → ℕ → ℕ → ℕ
 between area i j = cellAt area (min i j) (max i j)
 
 abbrev pub mirrored : ℕ → ℕ → ℕ
-mirrored i j = 128 * max i j + min i j
+mirrored i j = lineSize * max i j + min i j
 
 -- The mirror cells of n types, and what stands opposite to a cell.
 abbrev pub Mirror : ℕ → ℕ → ℕ → Type 0

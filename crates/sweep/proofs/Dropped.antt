@@ -13,7 +13,7 @@ use Rattle.types.specs.State.{storedAt}
 use Rattle.types.proofs.State.{length-storedAt}
 use Rattle.distances.specs.Area.{cellAt, Weighed}
 use Rattle.medians.proofs.Stored.{cost-bound}
-use Rattle.triplets.specs.Triplet.{leastCost}
+use Rattle.triplets.specs.Triplet.{costFloor}
 use Rattle.triplets.specs.declared.Triplet.{Triplet}
 use Rattle.triplets.proofs.Order.{Between, least-cost-is}
 use Rattle.medians.specs.Swept.{Gives}
@@ -67,7 +67,7 @@ module _ {ws : List ℕ} {states : Bytes} {made : ℕ} {t : Triplet} (weighed : 
           b
 
       -- What a triplet gives costs no less than its distances tell.
-      pub no-less : leastCost area t ≤ cost
+      pub no-less : costFloor area t ≤ cost
       no-less =
           ⊎-elim
           (λ half. omega (

@@ -13,12 +13,12 @@ use Rattle.links.specs.Marks.{marked}
 use Rattle.triplets.specs.Followers.{Follower, Followers}
 use Rattle.triplets.specs.Triplet.{inOrder}
 use Rattle.triplets.specs.declared.Triplet.{Triplet}
-use Rattle.triplets.specs.Words.{Cached}
+use Rattle.triplets.specs.Mismatches.{Cached}
 use Rattle.medians.specs.declared.search.Search.{Search}
 use Rattle.medians.specs.Search.{Inside}
 use Rattle.medians.specs.Swept.{Gives, Swept}
 use Rattle.medians.proofs.search.Sweeping.{Rows, swept-none, swept-more, swept-as, swept-at}
-use Rattle.sweep.specs.Candidate.{IsTriplet, Candidate, Faithful, WithFirst, AtCentre, Everywhere, Ready, Kept}
+use Rattle.sweep.specs.Candidate.{IsTriplet, Candidate, Faithful, WithFirst, AtCentre, Everywhere, Sweepable, TablesKept}
 use Rattle.sweep.specs.Floors.{Outlook, Floored, Floors}
 use Rattle.sweep.proofs.Dropped.{no-less}
 use Rattle.sweep.proofs.Floors.{floored-none, floored-more}
@@ -89,40 +89,40 @@ module _ {ws : List ℕ} {states : Bytes} {area : List ℕ} {n made c : ℕ} {x 
   ]
 
 -- What is kept is kept by one sweep after the other.
-pub kept-then : {states : Bytes} {m made made′ : ℕ} {words₀ words₁ words₂ guesses₁ guesses₂ : List ℕ} → made′ ≡ made →
-    Kept states m made words₀ words₁ guesses₁ → Kept states m made′ words₁ words₂ guesses₂ → Kept states m made words₀ words₂ guesses₂
-kept-then e a b = record { worded = rw e at (b .worded); words-size = b .words-size ∙ a .words-size; guesses-size = b .guesses-size }
+pub kept-then : {states : Bytes} {m made made′ : ℕ} {mismatches₀ words₁ words₂ guesses₁ guesses₂ : List ℕ} → made′ ≡ made →
+    TablesKept states m made mismatches₀ words₁ guesses₁ → TablesKept states m made′ words₁ words₂ guesses₂ → TablesKept states m made mismatches₀ words₂ guesses₂
+kept-then e a b = record { remembered = rw e at (b .remembered); mismatches-size = b .mismatches-size ∙ a .mismatches-size; guesses-size = b .guesses-size }
 
--- More words are known, or the guesses changed.
-pub kept-words : {states : Bytes} {m made made′ : ℕ} {words₀ words₁ words₂ guesses : List ℕ} → made′ ≡ made →
-    Kept states m made words₀ words₁ guesses → Cached states m made′ words₂ → length words₂ ≡ length words₁ → Kept states m made words₀ words₂ guesses
-kept-words e a cached size = record {
-  worded = record { narrow = a .worded .narrow; cached = rw e at cached };
-  words-size = size ∙ a .words-size;
+-- More mismatches are known, or the guesses changed.
+pub kept-mismatches : {states : Bytes} {m made made′ : ℕ} {mismatches₀ words₁ words₂ guesses : List ℕ} → made′ ≡ made →
+    TablesKept states m made mismatches₀ words₁ guesses → Cached states m made′ words₂ → length words₂ ≡ length words₁ → TablesKept states m made mismatches₀ words₂ guesses
+kept-mismatches e a cached size = record {
+  remembered = record { narrow = a .remembered .narrow; cached = rw e at cached };
+  mismatches-size = size ∙ a .mismatches-size;
   guesses-size = a .guesses-size;
 }
 
-pub kept-guesses : {states : Bytes} {m made : ℕ} {words₀ words guesses guesses′ : List ℕ} → Kept states m made words₀ words guesses →
-    length guesses′ ≡ 4096 → Kept states m made words₀ words guesses′
-kept-guesses a size = record { worded = a .worded; words-size = a .words-size; guesses-size = size }
+pub kept-guesses : {states : Bytes} {m made : ℕ} {mismatches₀ mismatches guesses guesses′ : List ℕ} → TablesKept states m made mismatches₀ mismatches guesses →
+    length guesses′ ≡ 4096 → TablesKept states m made mismatches₀ mismatches guesses′
+kept-guesses a size = record { remembered = a .remembered; mismatches-size = a .mismatches-size; guesses-size = size }
 
-module _ {states : Bytes} {area ws next words₀ : List ℕ} {found₀ guesses₀ : Bytes} {m n : ℕ} {s₀ : Search}
-    (ready : Ready states area ws next words₀ found₀ guesses₀ m n s₀) where
-  pub kept-none : Kept states m (s₀ .made) words₀ words₀ guesses₀
-  kept-none = record { worded = ready .worded; words-size = refl; guesses-size = ready .guesses-size }
+module _ {states : Bytes} {area ws next mismatches₀ : List ℕ} {gathered₀ guesses₀ : Bytes} {m n : ℕ} {s₀ : Search}
+    (ready : Sweepable states area ws next mismatches₀ gathered₀ guesses₀ m n s₀) where
+  pub kept-none : TablesKept states m (s₀ .made) mismatches₀ mismatches₀ guesses₀
+  kept-none = record { remembered = ready .remembered; mismatches-size = refl; guesses-size = ready .guesses-size }
 
   -- What a search needs, it has after a sweep too.
-  pub still-ready : {A G : Rows} {words : List ℕ} {found guesses : Bytes} {s : Search} → Swept A G found₀ s₀ found s →
-      Kept states m (s₀ .made) words₀ words guesses → Ready states area ws next words found guesses m n s
+  pub still-ready : {A G : Rows} {mismatches : List ℕ} {gathered guesses : Bytes} {s : Search} → Swept A G gathered₀ s₀ gathered s →
+      TablesKept states m (s₀ .made) mismatches₀ mismatches guesses → Sweepable states area ws next mismatches gathered guesses m n s
   still-ready a kept = record {
     weighed = ready .weighed;
     follows = ready .follows;
-    worded = rw (a .made-stays) (kept .worded);
+    remembered = rw (a .made-stays) (kept .remembered);
     current = rw (a .made-stays) (ready .current);
     room = a .room;
     lie = rw (a .made-stays) (ready .lie);
     cells = ready .cells;
-    found-size = a .size ∙ ready .found-size;
+    gathered-size = a .size ∙ ready .gathered-size;
     guesses-size = kept .guesses-size;
     low = omega (arith, a .no-higher, ready .low);
   }
@@ -142,29 +142,29 @@ module _ {states : Bytes} {area ws next words₀ : List ℕ} {found₀ guesses�
   Given made = Candidate ws states area n made
 
   -- Nothing is asked for yet.
-  none-asked : {A : Rows} → ((x : Bytes) (cost : ℕ) → A x cost → ⊥) → Swept A (Given (s₀ .made)) found₀ s₀ found₀ s₀
+  none-asked : {A : Rows} → ((x : Bytes) (cost : ℕ) → A x cost → ⊥) → Swept A (Given (s₀ .made)) gathered₀ s₀ gathered₀ s₀
   none-asked none = swept-none (λ x cost k. absurd (none x cost k)) (ready .room)
 
   -- One sweep more, which is asked for the rest.
-  one-more : {A C : Rows} (B : ℕ → Rows) {found found′ : Bytes} {s s′ : Search} →
-      Swept A (Given (s₀ .made)) found₀ s₀ found s → Swept (B (s .made)) (Given (s .made)) found s found′ s′ →
-      ((x : Bytes) (cost : ℕ) → C x cost → A x cost ⊎ B (s₀ .made) x cost) → Swept C (Given (s₀ .made)) found₀ s₀ found′ s′
+  one-more : {A C : Rows} (B : ℕ → Rows) {gathered found′ : Bytes} {s s′ : Search} →
+      Swept A (Given (s₀ .made)) gathered₀ s₀ gathered s → Swept (B (s .made)) (Given (s .made)) gathered s found′ s′ →
+      ((x : Bytes) (cost : ℕ) → C x cost → A x cost ⊎ B (s₀ .made) x cost) → Swept C (Given (s₀ .made)) gathered₀ s₀ found′ s′
   one-more B a b which = swept-more a (swept-at B Given (a .made-stays) b) which
 
   -- The sweep of all types.
-  pub everywhere-none : Swept (Everywhere ws states area n (s₀ .made) 0) (Given (s₀ .made)) found₀ s₀ found₀ s₀
+  pub everywhere-none : Swept (Everywhere ws states area n (s₀ .made) 0) (Given (s₀ .made)) gathered₀ s₀ gathered₀ s₀
   everywhere-none = none-asked (λ x cost k. omega (arith, k .within))
 
-  pub everywhere-more : (c : ℕ) {found found′ : Bytes} {s s′ : Search} →
-      Swept (Everywhere ws states area n (s₀ .made) c) (Given (s₀ .made)) found₀ s₀ found s →
-      Swept (AtCentre ws states area n (s .made) c n) (Given (s .made)) found s found′ s′ →
-      Swept (Everywhere ws states area n (s₀ .made) (c + 1)) (Given (s₀ .made)) found₀ s₀ found′ s′
+  pub everywhere-more : (c : ℕ) {gathered found′ : Bytes} {s s′ : Search} →
+      Swept (Everywhere ws states area n (s₀ .made) c) (Given (s₀ .made)) gathered₀ s₀ gathered s →
+      Swept (AtCentre ws states area n (s .made) c n) (Given (s .made)) gathered s found′ s′ →
+      Swept (Everywhere ws states area n (s₀ .made) (c + 1)) (Given (s₀ .made)) gathered₀ s₀ found′ s′
   everywhere-more c a b = one-more (λ made. AtCentre ws states area n made c n) a b (λ x cost. which-centre)
 
   -- A type is passed over where its floor does not matter.
-  pub everywhere-passed : (c : ℕ) {found : Bytes} {s : Search} {floors : List ℕ} → c < n → Floors ws states area n (s₀ .made) floors →
-      s .below ≤ getD floors c 0 → Swept (Everywhere ws states area n (s₀ .made) c) (Given (s₀ .made)) found₀ s₀ found s →
-      Swept (Everywhere ws states area n (s₀ .made) (c + 1)) (Given (s₀ .made)) found₀ s₀ found s
+  pub everywhere-passed : (c : ℕ) {gathered : Bytes} {s : Search} {floors : List ℕ} → c < n → Floors ws states area n (s₀ .made) floors →
+      s .below ≤ getD floors c 0 → Swept (Everywhere ws states area n (s₀ .made) c) (Given (s₀ .made)) gathered₀ s₀ gathered s →
+      Swept (Everywhere ws states area n (s₀ .made) (c + 1)) (Given (s₀ .made)) gathered₀ s₀ gathered s
   everywhere-passed c h floors high a =
       everywhere-more c a (swept-none (λ x cost k. inl (omega (arith, floors .each c h x cost (rw (a .made-stays) at k)))) (a .room))
 
@@ -174,16 +174,16 @@ module _ {states : Bytes} {area ws next words₀ : List ℕ} {found₀ guesses�
     none-centre f x cost k = omega (arith, not-passed f (k .a) (k .linked) (k .within))
 
     pub centre-none : {at : ℕ} → Follower area n c 0 at →
-        Swept (AtCentre ws states area n (s₀ .made) c at) (Given (s₀ .made)) found₀ s₀ found₀ s₀
+        Swept (AtCentre ws states area n (s₀ .made) c at) (Given (s₀ .made)) gathered₀ s₀ gathered₀ s₀
     centre-none f = none-asked (none-centre f)
 
     pub centre-open : {at low : ℕ} → Follower area n c 0 at → Floored (AtCentre ws states area n (s₀ .made) c at) low low
     centre-open f = floored-none (none-centre f)
 
-    pub centre-more : (a : ℕ) {to : ℕ} {found found′ : Bytes} {s s′ : Search} → Follower area n c (a + 1) to →
-        Swept (AtCentre ws states area n (s₀ .made) c a) (Given (s₀ .made)) found₀ s₀ found s →
-        Swept (WithFirst ws states area n (s .made) c a n) (Given (s .made)) found s found′ s′ →
-        Swept (AtCentre ws states area n (s₀ .made) c to) (Given (s₀ .made)) found₀ s₀ found′ s′
+    pub centre-more : (a : ℕ) {to : ℕ} {gathered found′ : Bytes} {s s′ : Search} → Follower area n c (a + 1) to →
+        Swept (AtCentre ws states area n (s₀ .made) c a) (Given (s₀ .made)) gathered₀ s₀ gathered s →
+        Swept (WithFirst ws states area n (s .made) c a n) (Given (s .made)) gathered s found′ s′ →
+        Swept (AtCentre ws states area n (s₀ .made) c to) (Given (s₀ .made)) gathered₀ s₀ found′ s′
     centre-more a f p q = one-more (λ made. WithFirst ws states area n made c a n) p q (λ x cost. which-first f)
 
     pub centre-lowered : (a : ℕ) {to high low lower : ℕ} {made : ℕ} → made ≡ s₀ .made → Follower area n c (a + 1) to →
@@ -197,18 +197,18 @@ module _ {states : Bytes} {area ws next words₀ : List ℕ} {found₀ guesses�
       none-first f x cost k = omega (arith, k .higher, not-passed f (k .b) (k .linked) (k .within))
 
       pub first-none : {at : ℕ} → Follower area n c (a + 1) at →
-          Swept (WithFirst ws states area n (s₀ .made) c a at) (Given (s₀ .made)) found₀ s₀ found₀ s₀
+          Swept (WithFirst ws states area n (s₀ .made) c a at) (Given (s₀ .made)) gathered₀ s₀ gathered₀ s₀
       first-none f = none-asked (none-first f)
 
       pub first-open : {at low : ℕ} → Follower area n c (a + 1) at → Floored (WithFirst ws states area n (s₀ .made) c a at) low low
       first-open f = floored-none (none-first f)
 
       -- It comes to a type b, and its triplet is skipped, dropped, settled or visited.
-      module _ {b to : ℕ} {found : Bytes} {s : Search} (follows : Follower area n c (b + 1) to)
-          (so-far : Swept (WithFirst ws states area n (s₀ .made) c a b) (Given (s₀ .made)) found₀ s₀ found s) where
+      module _ {b to : ℕ} {gathered : Bytes} {s : Search} (follows : Follower area n c (b + 1) to)
+          (so-far : Swept (WithFirst ws states area n (s₀ .made) c a b) (Given (s₀ .made)) gathered₀ s₀ gathered s) where
         first-more : {found′ : Bytes} {s′ : Search} →
-            Swept (Here ws states area n (s .made) c a b) (Given (s .made)) found s found′ s′ →
-            Swept (WithFirst ws states area n (s₀ .made) c a to) (Given (s₀ .made)) found₀ s₀ found′ s′
+            Swept (Here ws states area n (s .made) c a b) (Given (s .made)) gathered s found′ s′ →
+            Swept (WithFirst ws states area n (s₀ .made) c a to) (Given (s₀ .made)) gathered₀ s₀ found′ s′
         first-more q = one-more (λ made. Here ws states area n made c a b) so-far q (λ x cost. which-second follows)
 
         -- It is met at type a.
@@ -216,7 +216,7 @@ module _ {states : Bytes} {area ws next words₀ : List ℕ} {found₀ guesses�
         elsewhere h e k = ⊎-elim (λ l. omega arith) (λ f. false≢true (sym f ∙ e)) (k .1)
 
         pub first-skipped : a ≤ c → marked area a b ≡ true →
-            Swept (WithFirst ws states area n (s₀ .made) c a to) (Given (s₀ .made)) found₀ s₀ found s
+            Swept (WithFirst ws states area n (s₀ .made) c a to) (Given (s₀ .made)) gathered₀ s₀ gathered s
         first-skipped h e = first-more (swept-none (λ x cost k. absurd (elsewhere h e k)) (so-far .room))
 
         pub first-kept : a ≤ c → marked area a b ≡ true → {high low : ℕ} → Floored (WithFirst ws states area n (s₀ .made) c a b) high low →
@@ -239,7 +239,7 @@ module _ {states : Bytes} {area ws next words₀ : List ℕ} {found₀ guesses�
                 outlook
 
             -- So it is passed where that does not matter, and the floor is lowered to it.
-            pub first-passed : s .below ≤ r → Swept (WithFirst ws states area n (s₀ .made) c a to) (Given (s₀ .made)) found₀ s₀ found s
+            pub first-passed : s .below ≤ r → Swept (WithFirst ws states area n (s₀ .made) c a to) (Given (s₀ .made)) gathered₀ s₀ gathered s
             first-passed h = first-more (swept-none (λ x cost k. inl (omega (arith, here-no-less x cost k))) (so-far .room))
 
             pub first-lowered : {high low : ℕ} → Floored (WithFirst ws states area n (s₀ .made) c a b) high low →
@@ -254,7 +254,7 @@ module _ {states : Bytes} {area ws next words₀ : List ℕ} {found₀ guesses�
 
           -- It is visited, and what it gives is a candidate.
           pub first-visited : {found′ : Bytes} {s′ : Search} →
-              Swept (Gives ws states (s .made) t) (Gives ws states (s .made) t) found s found′ s′ →
-              Swept (WithFirst ws states area n (s₀ .made) c a to) (Given (s₀ .made)) found₀ s₀ found′ s′
+              Swept (Gives ws states (s .made) t) (Gives ws states (s .made) t) gathered s found′ s′ →
+              Swept (WithFirst ws states area n (s₀ .made) c a to) (Given (s₀ .made)) gathered₀ s₀ found′ s′
           first-visited q =
               first-more (swept-as (λ x cost k. rw is (k .2)) (λ x cost g. record { triplet = t; is-triplet = triplet; gives = g }) q)

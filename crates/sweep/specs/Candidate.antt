@@ -5,15 +5,17 @@ use mathlib.Core.Bool.{true, false}
 use mathlib.Core.List.{List}
 use Prim.Native.Nat.{ℕ, _+_, _*_, _≤_, _<_}
 use lib.ListN.{length, getD}
+use Rattle.medians.specs.Guesses.{guessesSize}
+use Rattle.rules.specs.Sizes.{mostWidth, mostTypes, rowSize, stateArea, distanceArea}
 use Rattle.rules.specs.Job.{Bytes}
 use Rattle.rules.specs.Median.{twoOf}
 use Rattle.types.specs.State.{storedAt}
 use Rattle.distances.specs.Area.{cellAt, Weighed, storedApart}
 use Rattle.links.specs.Marks.{marked}
 use Rattle.triplets.specs.Followers.{Followers}
-use Rattle.triplets.specs.Triplet.{inOrder}
+use Rattle.triplets.specs.Triplet.{inOrder, noCost}
 use Rattle.triplets.specs.declared.Triplet.{Triplet}
-use Rattle.triplets.specs.Words.{Narrow, Cached}
+use Rattle.triplets.specs.Mismatches.{Narrow, Cached}
 use Rattle.medians.specs.Swept.{Gives}
 use Rattle.medians.specs.declared.search.Search.{Search}
 
@@ -32,7 +34,7 @@ pub record Candidate (ws : List ℕ) (states : Bytes) (area : List ℕ) (n made 
 -- The distance area tells the truth of the first n stored types, and every character weighs something or is the same in all of them.
 pub record Faithful (ws : List ℕ) (states : Bytes) (area : List ℕ) (n : ℕ) : Type 0 where
   pub measured : (i j : ℕ) → i < j → j < n → cellAt area i j ≡ storedApart ws states i j
-  pub telling : (c : ℕ) → c < 64 →
+  pub telling : (c : ℕ) → c < mostWidth →
       (getD ws c 0 ≢ 0) ⊎ ((i j : ℕ) → i < n → j < n → getD (storedAt states i) c 0 ≡ getD (storedAt states j) c 0)
 
 -- What the triplets of type c with a and a higher type below `to` give; of type c with two others, the lower one below `to`; of all
@@ -57,25 +59,25 @@ pub record Everywhere (ws : List ℕ) (states : Bytes) (area : List ℕ) (n made
   pub within : c < to
   pub rest : AtCentre ws states area n made c n x cost
 
--- Words of the rows made, of the characters below m, that are right where they are known; from m on the rows hold zeros.
-pub record Worded (states : Bytes) (words : List ℕ) (m made : ℕ) : Type 0 where
+-- Mismatches of the rows made, of the characters below m, that are right where they are known; from m on the rows hold zeros.
+pub record Remembered (states : Bytes) (mismatches : List ℕ) (m made : ℕ) : Type 0 where
   pub narrow : Narrow states made m
-  pub cached : Cached states m made words
+  pub cached : Cached states m made mismatches
 
--- What a search through the triplets of n types needs, and what it keeps besides the rows found.
-pub record Ready (states : Bytes) (area ws next words : List ℕ) (found : Bytes) (guesses : List ℕ) (m n : ℕ) (s : Search) : Type 0 where
+-- What a search through the triplets of n types needs, and what it keeps besides the rows gathered.
+pub record Sweepable (states : Bytes) (area ws next mismatches : List ℕ) (gathered : Bytes) (guesses : List ℕ) (m n : ℕ) (s : Search) : Type 0 where
   pub weighed : Weighed ws
   pub follows : Followers area n next
-  pub worded : Worded states words m (s .made)
+  pub remembered : Remembered states mismatches m (s .made)
   pub current : n ≤ s .made
-  pub room : s .made + s .count ≤ 128
-  pub lie : 64 * s .made ≤ length states
-  pub cells : 16384 ≤ length area
-  pub found-size : length found ≡ 8192
-  pub guesses-size : length guesses ≡ 4096
-  pub low : s .below ≤ 200000
+  pub room : s .made + s .count ≤ mostTypes
+  pub lie : rowSize * s .made ≤ length states
+  pub cells : distanceArea ≤ length area
+  pub gathered-size : length gathered ≡ stateArea
+  pub guesses-size : length guesses ≡ guessesSize
+  pub low : s .below ≤ noCost
 
-pub record Kept (states : Bytes) (m made : ℕ) (words words′ guesses : List ℕ) : Type 0 where
-  pub worded : Worded states words′ m made
-  pub words-size : length words′ ≡ length words
-  pub guesses-size : length guesses ≡ 4096
+pub record TablesKept (states : Bytes) (m made : ℕ) (mismatches words′ guesses : List ℕ) : Type 0 where
+  pub remembered : Remembered states words′ m made
+  pub mismatches-size : length words′ ≡ length mismatches
+  pub guesses-size : length guesses ≡ guessesSize

@@ -5,15 +5,20 @@ ghost use mathlib.Core.Path.{_≡_};
 ghost use mathlib.Core.Bool.{true};
 ghost use Prim.Native.Nat.{_*_, _≤_, _<_, min};
 ghost use lib.ListN.{length};
+ghost use Rattle.triplets.specs.Triplet.{noCost};
+ghost use Rattle.rules.specs.Sizes.{mostTypes, rowSize, distanceArea};
 ghost use Rattle.links.specs.Marks.{marked};
 ghost use Rattle.medians.specs.Swept.{Swept};
-ghost use Rattle.sweep.specs.Candidate.{Candidate, WithFirst, AtCentre, Everywhere, Worded, Ready, Kept};
+ghost use Rattle.sweep.specs.Candidate.{Candidate, WithFirst, AtCentre, Everywhere, Remembered, Sweepable, TablesKept};
 ghost use Rattle.sweep.specs.Floors.{Outlook, Floored, Floors};
 use medians::search::Search;
 use medians::visit::visit;
+use rules::LINE;
+use triplets::FOLLOWERS_LINE;
+use triplets::NO_COST;
 use triplets::Triplet;
+use triplets::cost_floor;
 use triplets::in_order;
-use triplets::least_cost;
 
 // What is met: the search has come to this, and no candidate met costs less than the floor.
 struct Met {
@@ -32,24 +37,24 @@ fn lesser(x: usize, y: usize) -> usize
 fn outlook(
     states: &[u8],
     area: &[u16],
-    words: &mut [u64],
+    mismatches: &mut [u64],
     hints: &[u64],
     m: usize,
     made: usize,
     t: Triplet,
     below: usize,
 ) -> usize
-    requires { ⌜ Worded (now states) (now words) m made × (made ≤ 128) × (64 * made ≤ length (now states)) × (16384 ≤ length (now area))
+    requires { ⌜ Remembered (now states) (now mismatches) m made × (made ≤ mostTypes) × (rowSize * made ≤ length (now states)) × (distanceArea ≤ length (now area))
         × (t .u < made) × (t .v < made) × (t .w < made) ⌝ }
-    ensures { λ r. ⌜ Outlook (now (states .entry)) (now (area .entry)) made t r × Worded (now (states .entry)) (now (words .exit)) m made
-        × (length (now (words .exit)) ≡ length (now (words .entry))) ⌝ }
+    ensures { λ r. ⌜ Outlook (now (states .entry)) (now (area .entry)) made t r × Remembered (now (states .entry)) (now (mismatches .exit)) m made
+        × (length (now (mismatches .exit)) ≡ length (now (mismatches .entry))) ⌝ }
 {
-    let least = least_cost(area, t);
+    let least = cost_floor(area, t);
     if below <= least {
         return least;
     }
-    if triplets::settled::settled(states, words, hints, m, made, t) {
-        return 200000;
+    if triplets::settled::settled(states, mismatches, hints, m, made, t) {
+        return NO_COST;
     }
     least
 }
@@ -61,9 +66,9 @@ fn with_first(
     area: &[u16],
     weights: &[u16],
     next: &[u16],
-    words: &mut [u64],
+    mismatches: &mut [u64],
     hints: &[u64],
-    found: &mut [u8],
+    gathered: &mut [u8],
     guesses: &mut [u16],
     m: usize,
     n: usize,
@@ -72,25 +77,25 @@ fn with_first(
     c: usize,
     a: usize,
 ) -> Met
-    requires { ⌜ Ready (now states) (now area) (now weights) (now next) (now words) (now found) (now guesses) m n search × (c < n) × (a < n) × (marked (now area) c a ≡ true) ⌝ }
-    ensures { λ r. ⌜ Kept (now (states .entry)) m (search .made) (now (words .entry)) (now (words .exit)) (now (guesses .exit))
+    requires { ⌜ Sweepable (now states) (now area) (now weights) (now next) (now mismatches) (now gathered) (now guesses) m n search × (c < n) × (a < n) × (marked (now area) c a ≡ true) ⌝ }
+    ensures { λ r. ⌜ TablesKept (now (states .entry)) m (search .made) (now (mismatches .entry)) (now (mismatches .exit)) (now (guesses .exit))
         × Swept (WithFirst (now (weights .entry)) (now (states .entry)) (now (area .entry)) n (search .made) c a n)
-        (Candidate (now (weights .entry)) (now (states .entry)) (now (area .entry)) n (search .made)) (now (found .entry)) search (now (found .exit)) (r .search)
+        (Candidate (now (weights .entry)) (now (states .entry)) (now (area .entry)) n (search .made)) (now (gathered .entry)) search (now (gathered .exit)) (r .search)
         × Floored (WithFirst (now (weights .entry)) (now (states .entry)) (now (area .entry)) n (search .made) c a n) floor (r .floor) ⌝ }
 {
     let mut now = search;
     let mut low = floor;
-    let mut b = next[129 * c + a + 1] as usize;
+    let mut b = next[FOLLOWERS_LINE * c + a + 1] as usize;
     while b < n {
-        if c < a || area[128 * b + a] != 1 {
+        if c < a || area[LINE * b + a] != 1 {
             let t = in_order(c, a, b);
-            let least = outlook(states, area, words, hints, m, now.made, t, now.below);
+            let least = outlook(states, area, mismatches, hints, m, now.made, t, now.below);
             low = lesser(low, least);
             if least < now.below {
-                now = visit(states, weights, found, guesses, now, t);
+                now = visit(states, weights, gathered, guesses, now, t);
             }
         }
-        b = next[129 * c + b + 1] as usize;
+        b = next[FOLLOWERS_LINE * c + b + 1] as usize;
     }
     Met {
         search: now,
@@ -104,35 +109,35 @@ fn at_centre(
     area: &[u16],
     weights: &[u16],
     next: &[u16],
-    words: &mut [u64],
+    mismatches: &mut [u64],
     hints: &[u64],
-    found: &mut [u8],
+    gathered: &mut [u8],
     guesses: &mut [u16],
     m: usize,
     n: usize,
     search: Search,
     c: usize,
 ) -> Met
-    requires { ⌜ Ready (now states) (now area) (now weights) (now next) (now words) (now found) (now guesses) m n search × (c < n) ⌝ }
-    ensures { λ r. ⌜ Kept (now (states .entry)) m (search .made) (now (words .entry)) (now (words .exit)) (now (guesses .exit))
+    requires { ⌜ Sweepable (now states) (now area) (now weights) (now next) (now mismatches) (now gathered) (now guesses) m n search × (c < n) ⌝ }
+    ensures { λ r. ⌜ TablesKept (now (states .entry)) m (search .made) (now (mismatches .entry)) (now (mismatches .exit)) (now (guesses .exit))
         × Swept (AtCentre (now (weights .entry)) (now (states .entry)) (now (area .entry)) n (search .made) c n)
-        (Candidate (now (weights .entry)) (now (states .entry)) (now (area .entry)) n (search .made)) (now (found .entry)) search (now (found .exit)) (r .search)
-        × Floored (AtCentre (now (weights .entry)) (now (states .entry)) (now (area .entry)) n (search .made) c n) 200000 (r .floor) ⌝ }
+        (Candidate (now (weights .entry)) (now (states .entry)) (now (area .entry)) n (search .made)) (now (gathered .entry)) search (now (gathered .exit)) (r .search)
+        × Floored (AtCentre (now (weights .entry)) (now (states .entry)) (now (area .entry)) n (search .made) c n) noCost (r .floor) ⌝ }
 {
     let mut now = Met {
         search,
-        floor: 200000,
+        floor: NO_COST,
     };
-    let mut a = next[129 * c] as usize;
+    let mut a = next[FOLLOWERS_LINE * c] as usize;
     while a < n {
         now = with_first(
             states,
             area,
             weights,
             next,
-            words,
+            mismatches,
             hints,
-            found,
+            gathered,
             guesses,
             m,
             n,
@@ -141,7 +146,7 @@ fn at_centre(
             c,
             a,
         );
-        a = next[129 * c + a + 1] as usize;
+        a = next[FOLLOWERS_LINE * c + a + 1] as usize;
     }
     now
 }
@@ -153,19 +158,19 @@ pub fn sweep(
     weights: &[u16],
     next: &[u16],
     floors: &mut [usize],
-    words: &mut [u64],
+    mismatches: &mut [u64],
     hints: &[u64],
-    found: &mut [u8],
+    gathered: &mut [u8],
     guesses: &mut [u16],
     m: usize,
     n: usize,
     search: Search,
 ) -> Search
-    requires { ⌜ Ready (now states) (now area) (now weights) (now next) (now words) (now found) (now guesses) m n search
+    requires { ⌜ Sweepable (now states) (now area) (now weights) (now next) (now mismatches) (now gathered) (now guesses) m n search
         × Floors (now weights) (now states) (now area) n (search .made) (now floors) ⌝ }
-    ensures { λ r. ⌜ Kept (now (states .entry)) m (search .made) (now (words .entry)) (now (words .exit)) (now (guesses .exit))
+    ensures { λ r. ⌜ TablesKept (now (states .entry)) m (search .made) (now (mismatches .entry)) (now (mismatches .exit)) (now (guesses .exit))
         × Swept (Everywhere (now (weights .entry)) (now (states .entry)) (now (area .entry)) n (search .made) n)
-        (Candidate (now (weights .entry)) (now (states .entry)) (now (area .entry)) n (search .made)) (now (found .entry)) search (now (found .exit)) r
+        (Candidate (now (weights .entry)) (now (states .entry)) (now (area .entry)) n (search .made)) (now (gathered .entry)) search (now (gathered .exit)) r
         × Floors (now (weights .entry)) (now (states .entry)) (now (area .entry)) n (search .made) (now (floors .exit)) ⌝ }
 {
     let mut now = search;
@@ -177,9 +182,9 @@ pub fn sweep(
                 area,
                 weights,
                 next,
-                words,
+                mismatches,
                 hints,
-                found,
+                gathered,
                 guesses,
                 m,
                 n,

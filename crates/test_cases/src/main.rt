@@ -8,6 +8,7 @@ use crate::build::built;
 use answers::tell;
 use rules::Answer;
 use rules::Link;
+use rules::MOST_LINKS;
 use service::call_with;
 use text::text;
 
@@ -39,8 +40,8 @@ fn zero_words(words: &[u16]) -> bool {
 }
 
 // Whether no link is left in the table.
-fn empty(table: [Link; 8128]) -> bool {
-    for i in 0..8128 {
+fn empty(table: [Link; MOST_LINKS]) -> bool {
+    for i in 0..MOST_LINKS {
         let link = table[i];
         if (link.low != 0) | (link.high != 0) | (link.length != 0) {
             return false;
@@ -56,7 +57,7 @@ fn answer_over(
     result: &mut [u8],
     states: &mut [u8],
     distances: &mut [u16],
-    table: [Link; 8128],
+    table: [Link; MOST_LINKS],
 ) {
     let owned = call_with(job, result, states, distances, table);
     let answer = owned.answer;
@@ -89,7 +90,7 @@ fn answer_twice(job: &[u8], shown: usize) {
         &mut result,
         &mut states,
         &mut distances,
-        [dirt; 8128],
+        [dirt; MOST_LINKS],
     );
     result = [90u8; 60000];
     states = [90u8; 60000];
@@ -105,7 +106,7 @@ fn answer_twice(job: &[u8], shown: usize) {
         &mut result,
         &mut states,
         &mut distances,
-        [dirt; 8128],
+        [dirt; MOST_LINKS],
     );
 }
 
@@ -150,7 +151,7 @@ fn area_short(job: &[u8]) {
         &mut result,
         &mut states,
         &mut distances,
-        [dirt; 8128],
+        [dirt; MOST_LINKS],
     );
 }
 

@@ -4,7 +4,7 @@
 ghost use Prim.Native.Nat.{_≤_};
 ghost use lib.ListN.{length};
 use answers::Told;
-use fasta::made::tell_made;
+use fasta::conversion::tell_conversion;
 use fasta::make_job;
 use memory::numerals::Numeral;
 use memory::numerals::read_number;
@@ -43,7 +43,7 @@ fn filled(bytes: &[u8], from: usize, to: usize, value: u8) -> bool {
 fn show(text: &[u8], epsilon: u16, lent: usize, job: &mut [u8])
     requires { ⌜ lent ≤ length (now job) ⌝ }
 {
-    let told = tell_made(make_job(text, epsilon, &mut job[..lent]));
+    let told = tell_conversion(make_job(text, epsilon, &mut job[..lent]));
     print_told(told);
     let used = told.used;
     if used <= lent {
@@ -96,13 +96,13 @@ fn lent_length(k: usize) -> usize {
 fn show_job(lent_at: usize, epsilon_at: usize, file_at: usize) {
     let lent = lent_length(lent_at);
     if 17000 < lent {
-        complain(b"alignments: the lent length is not a decimal number from 0 to 17000\n");
+        complain(b"test_fasta: the lent length is not a decimal number from 0 to 17000\n");
         return;
     }
     match number(epsilon_at) {
         Numeral::Number { value } => show_file(file_at, value, lent),
         Numeral::Other => {
-            complain(b"alignments: the epsilon is not a decimal number from 0 to 65535\n")
+            complain(b"test_fasta: the epsilon is not a decimal number from 0 to 65535\n")
         }
     }
 }
@@ -113,7 +113,7 @@ fn main() {
     let mut k = 1;
     while k < count {
         if count - k < 3 {
-            complain(b"alignments: arguments come in threes, bytes lent, epsilon and a file\n");
+            complain(b"test_fasta: arguments come in threes, bytes lent, epsilon and a file\n");
             return;
         }
         show_job(k, k + 1, k + 2);

@@ -4,6 +4,7 @@
 ghost use mathlib.Core.Path.{_≡_};
 ghost use Prim.Native.Nat.{_≤_, _<_};
 ghost use lib.ListN.{length};
+ghost use Rattle.rules.specs.Sizes.{mostWidth, mostTypes, stateArea, distanceArea};
 use crate::show::answer;
 use crate::show::number;
 use crate::show::put;
@@ -14,8 +15,10 @@ use job::weights;
 use links::linked;
 use purge::purge;
 use purge::state::Held;
+use rules::DISTANCE_AREA;
 use rules::Kind;
 use rules::Origin;
+use rules::STATE_AREA;
 use run::start::begin;
 
 // The types from the first on are inferred ones.
@@ -51,7 +54,7 @@ fn put_origin(i: usize, types: usize, kind: Kind) {
 
 // The current types, and the retired rows behind them.
 fn put_types(states: &[u8], m: usize, held: Held)
-    requires { ⌜ (length (now states) ≡ 8192) × (m ≤ 64) × (held .state .made ≤ 128) ⌝ }
+    requires { ⌜ (length (now states) ≡ stateArea) × (m ≤ mostWidth) × (held .state .made ≤ mostTypes) ⌝ }
 {
     let state = held.state;
     let kinds = held.kinds;
@@ -71,8 +74,8 @@ fn put_link(i: usize, j: usize, length: usize) {
 
 // The links of type i and higher types, and how many they are.
 fn put_line(area: &[u16], t: usize, i: usize, each: bool) -> usize
-    requires { ⌜ (length (now area) ≡ 16384) × (t ≤ 128) × (i < t) ⌝ }
-    ensures { λ r. ⌜ r ≤ 128 ⌝ }
+    requires { ⌜ (length (now area) ≡ distanceArea) × (t ≤ mostTypes) × (i < t) ⌝ }
+    ensures { λ r. ⌜ r ≤ mostTypes ⌝ }
 {
     let mut links = 0;
     for j in i..t {
@@ -87,7 +90,7 @@ fn put_line(area: &[u16], t: usize, i: usize, each: bool) -> usize
 }
 
 fn put_links(area: &[u16], t: usize, each: bool)
-    requires { ⌜ (length (now area) ≡ 16384) × (t ≤ 128) ⌝ }
+    requires { ⌜ (length (now area) ≡ distanceArea) × (t ≤ mostTypes) ⌝ }
 {
     let mut links = 0;
     for i in 0..t {
@@ -105,8 +108,8 @@ pub(crate) fn purged(job: &[u8], sampled: usize, each: bool) {
     }
     let header = header_of(job);
     let weights = weights(job, header.width);
-    let mut states = [170u8; 8192];
-    let mut area = [170u16; 16384];
+    let mut states = [170u8; STATE_AREA];
+    let mut area = [170u16; DISTANCE_AREA];
     let begun = begin(job, &mut states, &mut area, &weights);
     let held = begun.held;
     let state = held.state;

@@ -1,11 +1,12 @@
 // The stored jobs: each file that an argument names is answered, one behind the other.
 use service::answer_text;
+use text::TEXT_ROOM;
 
 // The answer to the job that a descriptor hands out.
 fn answer(fd: i32) {
     let mut job = [0u8; 16525];
     let n = io::read_full(fd, &mut job);
-    let mut out = [0u8; 172718];
+    let mut out = [0u8; TEXT_ROOM];
     let used = answer_text(&job[..n], &mut out);
     io::write_all(libc::STDOUT_FILENO, &out[0..used]);
 }

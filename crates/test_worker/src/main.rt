@@ -6,8 +6,13 @@ ghost use Prim.Native.Nat.{_≤_};
 ghost use lib.ListN.{length};
 use answers::tell;
 use memory::word_at;
+use rules::DISTANCE_AREA;
 use rules::Link;
+use rules::MOST_LINKS;
+use rules::RESULT_AREA;
+use rules::STATE_AREA;
 use service::call_with;
+use text::TEXT_ROOM;
 use text::tell_text;
 use text::text;
 
@@ -26,7 +31,7 @@ fn answer_over(
     result: &mut [u8],
     states: &mut [u8],
     distances: &mut [u16],
-    table: [Link; 8128],
+    table: [Link; MOST_LINKS],
     out: &mut [u8],
 ) {
     let owned = call_with(job, result, states, distances, table);
@@ -45,21 +50,21 @@ fn answer_over(
 }
 
 fn answer(job: &[u8]) {
-    let mut result = [165u8; 57680];
-    let mut states = [90u8; 8192];
-    let mut distances = [165u16; 16384];
+    let mut result = [165u8; RESULT_AREA];
+    let mut states = [90u8; STATE_AREA];
+    let mut distances = [165u16; DISTANCE_AREA];
     let dirt = Link {
         low: 90,
         high: 165,
         length: 90,
     };
-    let mut out = [90u8; 172718];
+    let mut out = [90u8; TEXT_ROOM];
     answer_over(
         job,
         &mut result,
         &mut states,
         &mut distances,
-        [dirt; 8128],
+        [dirt; MOST_LINKS],
         &mut out,
     );
 }

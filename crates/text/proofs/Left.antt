@@ -17,7 +17,7 @@ use Rattle.memory.proofs.Placed.{placed-padded}
 use Rattle.text.specs.Lines.{legible, networkOf}
 use Rattle.text.specs.Printed.{printedUsed, textRoom, textOf, refusalOf, briefRoom, printedWithin, printedAs, printedBytes, RefusalWithin, RefusalLeft, TextWithin, TextLeft, briefAs, BriefLeft}
 use Rattle.text.specs.declared.Printed.{Printed}
-use Rattle.text.specs.declared.Printed.the-variants.{Done, Room, Block}
+use Rattle.text.specs.declared.Printed.the-variants.{Done, Short, Block}
 use Rattle.text.proofs.listing.Legible.{read-is}
 use Rattle.text.proofs.Network.{text-read}
 
@@ -25,7 +25,7 @@ use Rattle.text.proofs.Network.{text-read}
 
 -- The memory lent holds zeros first.
 module _ (n at room lent : ℕ) {zeros : Bytes} (z : zeros ≡ replicate lent 0) where
-  pub no-room : lent < room → RefusalWithin n at room lent zeros Room
+  pub no-room : lent < room → RefusalWithin n at room lent zeros Short
   no-room h = record { answered = rw (lt-ltb lent room h); left = z ∙ rw (lt-ltb lent room h, sub-zero) }
 
   pub line-left : {out : Bytes} {r : ℕ} → room ≤ lent → Follows zeros 0 (refusalOf n at) out r → RefusalWithin n at room lent out (Done r)
@@ -49,7 +49,7 @@ module _ (job block : Bytes) (answer : Answer) (room lent : ℕ) where
 
   -- For a network the memory holds zeros first.
   module _ {zeros : Bytes} (z : zeros ≡ replicate lent 0) (n : number answer ≡ 0) where
-    pub room-left : lent < room → TextWithin job block answer room lent zeros Room
+    pub room-left : lent < room → TextWithin job block answer room lent zeros Short
     room-left h = record { answered = rw (lt-ltb lent room h); left = z ∙ rw (lt-ltb lent room h, sub-zero) }
 
     module _ (h : room ≤ lent) where
@@ -72,7 +72,7 @@ module _ (job block : Bytes) (answer : Answer) (room lent : ℕ) where
 -- ── What the public functions say of it ──
 
 -- The bytes used lie in the memory lent.
-used-within : (short other : Bool) (lent : ℕ) (xs : Bytes) → let r = cond short Room (cond other Block (Done (length xs))) in
+used-within : (short other : Bool) (lent : ℕ) (xs : Bytes) → let r = cond short Short (cond other Block (Done (length xs))) in
     printedUsed r ≤ length (padded lent (printedBytes r xs))
 used-within true other lent xs = omega arith
 used-within false true lent xs = omega arith

@@ -14,7 +14,7 @@ use Rattle.rules.specs.Text.{networkText, typeLine, linkLine}
 use Rattle.rules.specs.declared.Origin.the-variants.{Sampled}
 use Rattle.rules.proofs.Block.{sampledIn-append}
 use Rattle.readback.specs.ReadBack.{readType, readLink, readBack}
-use Rattle.text.specs.Lines.{headOf, typesOf, linksOf, networkOf}
+use Rattle.text.specs.Lines.{networkLineOf, typeLinesOf, linkLinesOf, networkOf}
 
 -- As many types are read back as sampled as the header says.
 sampled-read : (job block : Bytes) → word block 2 ≤ word block 0 → sampledIn (table (word block 0) (readType job block)) ≡ word block 2
@@ -36,7 +36,7 @@ lines-read : {A : Type 0} (n : ℕ) (f : ℕ → A) (d : A) (line : ℕ → A �
 lines-read n f d line = rw length-table (gather-ext n _ _ (λ k l. ap (line k) (getD-table n f k d l)))
 
 pub text-read : (job block : Bytes) → word block 2 ≤ word block 0 → networkText (readBack job block) ≡ networkOf job block
-unfolding networkText readBack headOf typesOf linksOf
+unfolding networkText readBack networkLineOf typeLinesOf linkLinesOf
 text-read job b h =
     rw (
       lines-read (word b 0) (readType job b) (record { row = []; origin = Sampled 0 0 }) typeLine,

@@ -17,9 +17,9 @@ use Rattle.rules.specs.Lookup.{Part, inJob, inResult, nowhere, partOf, statesOf
 use Rattle.rules.specs.Text.{text, originText, typeLine, linkLine}
 use Rattle.rules.specs.declared.Answer.{Answer}
 use Rattle.rules.specs.declared.Origin.the-variants.{Sampled, Inferred}
-use Rattle.memory.proofs.lines.Decimal.{length-decimal}
+use Rattle.memory.proofs.decimals.Decimal.{length-decimal}
 use Rattle.readback.specs.ReadBack.{recordAt, readLink}
-use Rattle.text.specs.Lines.{Legible, headOf, typeOf, typesOf, linksOf, networkOf}
+use Rattle.text.specs.Lines.{Legible, networkLineOf, typeLineOf, typeLinesOf, linkLinesOf, networkOf}
 use Rattle.text.specs.Printed.{textRoom, refusalOf, lineRoom, networkRoom, briefRoom, Suffices}
 use Rattle.text.proofs.listing.Legible.{Read, read-is}
 
@@ -51,8 +51,8 @@ module _ {job block : Bytes} (r : Read job block) (bytes : (i : ℕ) → getD bl
   word-most : (i : ℕ) → word block i ≤ 65535
   word-most i = omega (arith, bytes i, bytes (i + 1))
 
-  head-most : length (headOf block) ≤ 46
-  unfolding headOf text
+  head-most : length (networkLineOf block) ≤ 46
+  unfolding networkLineOf text
   head-most =
       simp length-append
       (omega (
@@ -63,7 +63,7 @@ module _ {job block : Bytes} (r : Read job block) (bytes : (i : ℕ) → getD bl
         length-decimal 4 (word block 8) (omega (arith, word-most 8)),
       ))
 
-  type-most : (k : ℕ) → k < word block 0 → length (typeOf job block k) ≤ 79
+  type-most : (k : ℕ) → k < word block 0 → length (typeLineOf job block k) ≤ 79
   unfolding typeLine text
   type-most k h =
       let at = recordAt block k in
@@ -89,13 +89,13 @@ module _ {job block : Bytes} (r : Read job block) (bytes : (i : ℕ) → getD bl
       ))
 
   pub network-most : length (networkOf job block) ≤ networkRoom block
-  unfolding typesOf linksOf
+  unfolding typeLinesOf linkLinesOf
   network-most =
       simp length-append
       (omega (
         arith,
         head-most,
-        gather-most (word block 0) 79 (typeOf job block) type-most,
+        gather-most (word block 0) 79 (typeLineOf job block) type-most,
         gather-most (word block 6) 20 (λ k. linkLine (readLink block k)) link-most,
       ))
 

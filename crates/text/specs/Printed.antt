@@ -5,6 +5,7 @@ use mathlib.Core.List.{[], _++_}
 use Prim.Native.Nat.{ℕ, _+_, _*_, _≤_}
 use lib.Dec.{ltb, eqb}
 use lib.ListN.{length}
+use Rattle.rules.specs.Result.{recordsOffset}
 use Rattle.rules.specs.Answers.{number}
 use Rattle.rules.specs.Job.{Bytes, word}
 use Rattle.rules.specs.Call.{refused, padded}
@@ -15,17 +16,17 @@ use Rattle.text.specs.Lines.{legible, Legible}
 use Rattle.answers.specs.Told.{Tells}
 use Rattle.answers.specs.declared.Told.{Told}
 use Rattle.text.specs.declared.Printed.{Printed}
-use Rattle.text.specs.declared.Printed.the-variants.{Done, Room, Block}
+use Rattle.text.specs.declared.Printed.the-variants.{Done, Short, Block}
 
 -- The numbers of these answers, and the bytes used; the place is 0.
 abbrev pub printedNumber : Printed → ℕ
 printedNumber (Done used) = 0
-printedNumber Room = 80
+printedNumber Short = 80
 printedNumber Block = 81
 
 abbrev pub printedUsed : Printed → ℕ
 printedUsed (Done used) = used
-printedUsed Room = 0
+printedUsed Short = 0
 printedUsed Block = 0
 
 abbrev pub ToldText : Printed → Told → Type 0
@@ -52,7 +53,7 @@ networkRoom block = 46 + 79 * word block 0 + 20 * word block 6
 
 -- So many for the text of an answer. A block without a header is not printed.
 unfoldable pub briefRoom : Bytes → Answer → ℕ
-briefRoom block answer = cond (eqb (number answer) 0) (cond (ltb (length block) 16) 0 (networkRoom block)) lineRoom
+briefRoom block answer = cond (eqb (number answer) 0) (cond (ltb (length block) recordsOffset) 0 (networkRoom block)) lineRoom
 
 -- The text of an answer has room in so many bytes, if there is a text.
 abbrev pub Suffices : Bytes → Bytes → Answer → ℕ → Type 0
@@ -62,21 +63,21 @@ Suffices job block answer room = (number answer ≡ 0 → Legible job block) →
 abbrev pub printedWithin : ℕ → ℕ → Bytes → Bytes → Answer → Printed
 printedWithin room lent job block answer =
     let done = Done (length (textOf job block answer)) in
-    cond (ltb lent room) Room (cond (eqb (number answer) 0 && not (legible job block)) Block done)
+    cond (ltb lent room) Short (cond (eqb (number answer) 0 && not (legible job block)) Block done)
 
--- Room for every text is asked for.
+-- Short for every text is asked for.
 unfoldable pub printedAs : ℕ → Bytes → Bytes → Answer → Printed
 printedAs lent job block answer = printedWithin textRoom lent job block answer
 
 -- Nothing is half written.
 abbrev pub printedBytes : Printed → Bytes → Bytes
 printedBytes (Done used) xs = xs
-printedBytes Room xs = []
+printedBytes Short xs = []
 printedBytes Block xs = []
 
 -- The line of a refusal alone: 80 where the memory lent is shorter than asked for.
 abbrev pub refusalWithin : ℕ → ℕ → ℕ → ℕ → Printed
-refusalWithin room lent number place = cond (ltb lent room) Room (Done (length (refusalOf number place)))
+refusalWithin room lent number place = cond (ltb lent room) Short (Done (length (refusalOf number place)))
 
 abbrev pub refusalAs : ℕ → ℕ → ℕ → Printed
 refusalAs lent number place = refusalWithin textRoom lent number place
@@ -97,7 +98,7 @@ pub record TextLeft (job block : Bytes) (answer : Answer) (lent : ℕ) (out : By
   pub answered : r ≡ printedAs lent job block answer
   pub left : out ≡ padded lent (printedBytes (printedAs lent job block answer) (textOf job block answer))
 
--- Room for this text alone is asked for.
+-- Short for this text alone is asked for.
 unfoldable pub briefAs : ℕ → Bytes → Bytes → Answer → Printed
 briefAs lent job block answer = printedWithin (briefRoom block answer) lent job block answer
 

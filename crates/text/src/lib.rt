@@ -10,22 +10,28 @@ ghost use lib.ListN.{length, replicate};
 ghost use Rattle.memory.specs.Placed.{Follows};
 ghost use Rattle.text.specs.Lines.{Legible, legible, networkOf};
 ghost use Rattle.text.specs.Printed.{ToldText, refusalOf, lineRoom, networkRoom, briefRoom, Suffices, RefusalWithin, RefusalLeft, TextWithin, TextLeft, BriefLeft};
-use crate::listing::put_head;
-use crate::listing::put_links;
-use crate::listing::put_types;
+use crate::listing::put_link_lines;
+use crate::listing::put_network_line;
+use crate::listing::put_type_lines;
 use answers::Told;
 use answers::tell;
 use lookup::matching::block_matches;
 use memory::clear_bytes;
-use memory::lines::put;
-use memory::lines::say;
+use memory::decimals::put;
+use memory::decimals::say;
 use memory::word_at;
 use rules::Answer;
+use rules::LINK_SIZE;
+use rules::MOST_LINKS;
+use rules::RECORDS_OFFSET;
+
+// So many bytes are enough for every text.
+pub const TEXT_ROOM: usize = 172718;
 
 // How a text ends: with so many bytes; without the room that is asked for; or without a result block of this job to print.
 pub enum Printed {
     Done { used: usize },
-    Room,
+    Short,
     Block,
 }
 
@@ -39,7 +45,7 @@ pub fn tell_text(printed: Printed) -> Told
             place: 0,
             used,
         },
-        Printed::Room => Told {
+        Printed::Short => Told {
             number: 80,
             place: 0,
             used: 0,
@@ -60,7 +66,7 @@ fn is_legible(job: &[u8], block: &[u8]) -> bool
         return false;
     }
     let l = word_at(block, 6);
-    l <= 8128 && word_at(block, 14) + 6 * l <= block.len()
+    l <= MOST_LINKS && word_at(block, 14) + LINK_SIZE * l <= block.len()
 }
 
 // A refusal is one line.
@@ -77,9 +83,9 @@ fn put_network<'a>(job: &'a [u8], block: &'a [u8], out: &mut [u8]) -> usize
     requires { ⌜ Legible (now job) (now block) × (networkRoom (now block) ≤ length (now out)) ⌝ }
     ensures { λ r. ⌜ Follows (now (out .entry)) 0 (networkOf (now (job .entry)) (now (block .entry))) (now (out .exit)) r ⌝ }
 {
-    let at = put_head(block, out, 0);
-    let at = put_types(job, block, out, at);
-    put_links(block, out, at)
+    let at = put_network_line(block, out, 0);
+    let at = put_type_lines(job, block, out, at);
+    put_link_lines(block, out, at)
 }
 
 // Zeros to the end, and whether there are so many bytes.
@@ -96,7 +102,7 @@ fn refusal_within(number: usize, place: usize, room: usize, out: &mut [u8]) -> P
     ensures { λ r. ⌜ RefusalWithin number place room (length (now (out .entry))) (now (out .exit)) r ⌝ }
 {
     if !make_room(room, out) {
-        return Printed::Room;
+        return Printed::Short;
     }
     let used = put_refusal(number, place, out);
     Printed::Done { used }
@@ -106,7 +112,7 @@ fn refusal_within(number: usize, place: usize, room: usize, out: &mut [u8]) -> P
 pub fn refusal_text(number: usize, place: usize, out: &mut [u8]) -> Printed
     ensures { λ r. ⌜ RefusalLeft number place (length (now (out .entry))) (now (out .exit)) r ⌝ }
 {
-    refusal_within(number, place, 172718, out)
+    refusal_within(number, place, TEXT_ROOM, out)
 }
 
 // The text of an answer where so many bytes are lent: the network in the result block, read with its job, or the refusal. Zeros follow it
@@ -126,7 +132,7 @@ fn text_within<'a>(
         return refusal_within(told.number, told.place, room, out);
     }
     if !make_room(room, out) {
-        return Printed::Room;
+        return Printed::Short;
     }
     if !is_legible(job, block) {
         return Printed::Block;
@@ -139,7 +145,7 @@ fn text_within<'a>(
 pub fn text<'a>(job: &'a [u8], block: &'a [u8], answer: Answer, out: &mut [u8]) -> Printed
     ensures { λ r. ⌜ TextLeft (now (job .entry)) (now (block .entry)) answer (length (now (out .entry))) (now (out .exit)) r ⌝ }
 {
-    text_within(job, block, answer, 172718, out)
+    text_within(job, block, answer, TEXT_ROOM, out)
 }
 
 // The bytes that are enough for the text of this answer, by the numbers of types and links that the block says.
@@ -150,7 +156,7 @@ fn brief_room(block: &[u8], answer: Answer) -> usize
     if told.number != 0 {
         return 50;
     }
-    if block.len() < 16 {
+    if block.len() < RECORDS_OFFSET {
         return 0;
     }
     46 + 79 * word_at(block, 0) + 20 * word_at(block, 6)

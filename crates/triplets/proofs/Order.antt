@@ -17,7 +17,7 @@ use Rattle.rules.specs.Median.{twoOf}
 use Rattle.distances.specs.Area.{cellAt}
 use Rattle.links.specs.Marks.{marked}
 use Rattle.triplets.specs.declared.Triplet.{Triplet}
-use Rattle.triplets.specs.Triplet.{inOrder, leastCost}
+use Rattle.triplets.specs.Triplet.{inOrder, costFloor}
 
 -- A mark has no direction, and is of two types that differ.
 module _ (area : List ℕ) (i j : ℕ) where
@@ -156,7 +156,7 @@ Between uv uw vw = (uv + vw ≡ uw) ⊎ (uv + uw ≡ vw) ⊎ (uw + vw ≡ uv)
 
 -- No cost is that small a number's half: what a triplet's least cost says of its distances.
 pub least-cost-is : (area : List ℕ) (t : Triplet) →
-    (2 * leastCost area t ≤ sumOf area t) ⊎ Between (cellAt area (t .u) (t .v)) (cellAt area (t .u) (t .w)) (cellAt area (t .v) (t .w))
+    (2 * costFloor area t ≤ sumOf area t) ⊎ Between (cellAt area (t .u) (t .v)) (cellAt area (t .u) (t .w)) (cellAt area (t .v) (t .w))
 least-cost-is area t =
     let uv = cellAt area (t .u) (t .v) in
     let uw = cellAt area (t .u) (t .w) in

@@ -1,4 +1,4 @@
 pub mod Followers
 pub mod Triplet
-pub mod Words
+pub mod Mismatches
 pub mod Settled

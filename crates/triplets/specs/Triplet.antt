@@ -10,10 +10,14 @@ use Rattle.triplets.specs.declared.Triplet.{Triplet}
 abbrev pub inOrder : ℕ → ℕ → ℕ → Triplet
 inOrder c a b = cond (ltb c a) (record { u = c; v = a; w = b }) (cond (ltb c b) (record { u = a; v = c; w = b }) (record { u = a; v = b; w = c }))
 
+-- More than any cost: what stands for no cost at all.
+abbrev pub noCost : ℕ
+noCost = 200000
+
 -- Half the sum of the three distances; where a type lies between the other two, more than any cost.
-abbrev pub leastCost : List ℕ → Triplet → ℕ
-leastCost area t =
+abbrev pub costFloor : List ℕ → Triplet → ℕ
+costFloor area t =
     let uv = cellAt area (t .u) (t .v) in
     let uw = cellAt area (t .u) (t .w) in
     let vw = cellAt area (t .v) (t .w) in
-    cond (eqb (uv + vw) uw || eqb (uv + uw) vw || eqb (uw + vw) uv) 200000 ((uv + uw + vw) / 2)
+    cond (eqb (uv + vw) uw || eqb (uv + uw) vw || eqb (uw + vw) uv) noCost ((uv + uw + vw) / 2)

@@ -1,14 +1,20 @@
-// The room of hints: a guess which row made has given states, without a look at its states. It reads the state area. A row has four
+// The corner of hints: a guess which row made has given states, without a look at its states. It reads the state area. A row has four
 // planes of bits, and a table leads from their mix to a row's number. A guess may be wrong, and a table of hints may hold any numbers:
 // whoever guesses checks. So nothing is promised here but that a guess is one of those numbers.
 
 ghost use mathlib.Core.Path.{_≡_};
 ghost use Prim.Native.Nat.{ℕ, _+_, _*_, _≤_, _<_};
 ghost use lib.ListN.{length, getD};
+ghost use Rattle.triplets.specs.Mismatches.{hintsSize};
+ghost use Rattle.rules.specs.Sizes.{mostWidth, mostTypes, rowSize};
 use memory::eight_at;
+use rules::ROW;
+
+// Four planes for each row, and behind them a table of 4,096 places from a mix of planes to a row.
+pub const HINTS: usize = 4608;
 
 // Eight bytes of eight bits, turned: byte p has bit p of each, in their order.
-fn turned(x: u64) -> u64 {
+fn transposed(x: u64) -> u64 {
     let singles = (x ^ (x >> 7)) & 0x00aa00aa00aa00aa;
     let y = x ^ singles ^ (singles << 7);
     let pairs = (y ^ (y >> 14)) & 0x0000cccc0000cccc;
@@ -27,7 +33,7 @@ struct Planes {
 
 // The planes of row i, eight characters at a time.
 fn planes_of(states: &[u8], m: usize, i: usize) -> Planes
-    requires { ⌜ (m ≤ 64) × (64 * i + 64 ≤ length (now states)) ⌝ }
+    requires { ⌜ (m ≤ mostWidth) × (rowSize * i + rowSize ≤ length (now states)) ⌝ }
 {
     let mut ones = 0u64;
     let mut twos = 0u64;
@@ -36,7 +42,7 @@ fn planes_of(states: &[u8], m: usize, i: usize) -> Planes
     let mut k = (m + 7) / 8;
     while 0 < k {
         k -= 1;
-        let bits = turned(eight_at(states, 64 * i + 8 * k));
+        let bits = transposed(eight_at(states, ROW * i + 8 * k));
         ones = (ones << 8) | (bits % 256);
         twos = (twos << 8) | ((bits >> 8) % 256);
         fours = (fours << 8) | ((bits >> 16) % 256);
@@ -52,8 +58,8 @@ fn planes_of(states: &[u8], m: usize, i: usize) -> Planes
 
 // Where the row with these planes is looked for: in the table behind the planes. (A prime that is not close to a power of 2 mixes
 // well, and dividing by this one takes few steps.)
-fn slot(p: Planes) -> usize
-    ensures { λ r. ⌜ r < 4608 ⌝ }
+fn slot_of(p: Planes) -> usize
+    ensures { λ r. ⌜ r < hintsSize ⌝ }
 {
     let twos = (p.twos << 16) | (p.twos >> 48);
     let fours = (p.fours << 32) | (p.fours >> 32);
@@ -63,21 +69,21 @@ fn slot(p: Planes) -> usize
 
 // The hints of row i: its planes, and its number in their slot.
 fn hint(states: &[u8], hints: &mut [u64], m: usize, i: usize)
-    requires { ⌜ (m ≤ 64) × (i < 128) × (64 * i + 64 ≤ length (now states)) × (length (now hints) ≡ 4608) ⌝ }
-    ensures { λ _. ⌜ length (now (hints .exit)) ≡ 4608 ⌝ }
+    requires { ⌜ (m ≤ mostWidth) × (i < mostTypes) × (rowSize * i + rowSize ≤ length (now states)) × (length (now hints) ≡ hintsSize) ⌝ }
+    ensures { λ _. ⌜ length (now (hints .exit)) ≡ hintsSize ⌝ }
 {
     let p = planes_of(states, m, i);
     hints[4 * i] = p.ones;
     hints[4 * i + 1] = p.twos;
     hints[4 * i + 2] = p.fours;
     hints[4 * i + 3] = p.eights;
-    hints[slot(p)] = i as u64;
+    hints[slot_of(p)] = i as u64;
 }
 
 // What guesses go by: four planes of bits for each row, and a table from their mix to a row. May hold any numbers.
 pub fn hints(states: &[u8], hints: &mut [u64], m: usize, made: usize)
-    requires { ⌜ (m ≤ 64) × (made ≤ 128) × (64 * made ≤ length (now states)) × (length (now hints) ≡ 4608) ⌝ }
-    ensures { λ _. ⌜ length (now (hints .exit)) ≡ 4608 ⌝ }
+    requires { ⌜ (m ≤ mostWidth) × (made ≤ mostTypes) × (rowSize * made ≤ length (now states)) × (length (now hints) ≡ hintsSize) ⌝ }
+    ensures { λ _. ⌜ length (now (hints .exit)) ≡ hintsSize ⌝ }
 {
     let mut i = 0;
     while i < made {
@@ -87,8 +93,8 @@ pub fn hints(states: &[u8], hints: &mut [u64], m: usize, made: usize)
 }
 
 // The planes that are kept of row i.
-fn kept(hints: &[u64], i: usize) -> Planes
-    requires { ⌜ (i < 128) × (4608 ≤ length (now hints)) ⌝ }
+fn planes_kept(hints: &[u64], i: usize) -> Planes
+    requires { ⌜ (i < mostTypes) × (hintsSize ≤ length (now hints)) ⌝ }
 {
     Planes {
         ones: hints[4 * i],
@@ -105,16 +111,16 @@ fn mixed(first: u64, second: u64, k: u64) -> u64 {
 
 // A guess which row has the states of row v in the characters of k, and those of row u in the others: one of the numbers in the table.
 pub fn guess(hints: &[u64], u: usize, v: usize, k: u64) -> usize
-    requires { ⌜ (u < 128) × (v < 128) × (4608 ≤ length (now hints)) ⌝ }
-    ensures { λ r. ⌜ ((at : ℕ) × (at < 4608) × (r ≡ getD (now (hints .entry)) at 0)) ⌝ }
+    requires { ⌜ (u < mostTypes) × (v < mostTypes) × (hintsSize ≤ length (now hints)) ⌝ }
+    ensures { λ r. ⌜ ((at : ℕ) × (at < hintsSize) × (r ≡ getD (now (hints .entry)) at 0)) ⌝ }
 {
-    let p = kept(hints, u);
-    let q = kept(hints, v);
+    let p = planes_kept(hints, u);
+    let q = planes_kept(hints, v);
     let both = Planes {
         ones: mixed(p.ones, q.ones, k),
         twos: mixed(p.twos, q.twos, k),
         fours: mixed(p.fours, q.fours, k),
         eights: mixed(p.eights, q.eights, k),
     };
-    hints[slot(both)] as usize
+    hints[slot_of(both)] as usize
 }

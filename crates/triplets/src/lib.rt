@@ -2,14 +2,25 @@
 // distance area.
 
 pub mod hints;
+pub mod mismatches;
 pub mod settled;
-pub mod words;
 
 ghost use mathlib.Core.Path.{_≡_};
 ghost use Prim.Native.Nat.{_+_, _≤_, _<_};
 ghost use lib.ListN.{length};
-ghost use Rattle.triplets.specs.Followers.{Follower, FollowLine, Followers};
-ghost use Rattle.triplets.specs.Triplet.{inOrder, leastCost};
+ghost use Rattle.rules.specs.Sizes.{mostTypes, distanceArea};
+ghost use Rattle.triplets.specs.Followers.{Follower, FollowLine, Followers, followersSize};
+ghost use Rattle.triplets.specs.Triplet.{inOrder, costFloor};
+use rules::LINE;
+use rules::MOST_TYPES;
+
+// A line of the table of followers: a place for each type, and one behind the last.
+pub const FOLLOWERS_LINE: usize = MOST_TYPES + 1;
+
+pub const FOLLOWERS: usize = MOST_TYPES * FOLLOWERS_LINE;
+
+// More than any cost: what stands for no cost at all.
+pub const NO_COST: usize = 200000;
 
 // Three types, ascending.
 pub struct Triplet {
@@ -21,17 +32,17 @@ pub struct Triplet {
 // Line c of the table above place c: at place i the first type from i on that is linked with type c, or n where none is. Types above
 // c have their marks down column c. Hands back the first of them that is linked with c.
 fn follow_above(area: &[u16], next: &mut [u16], n: usize, c: usize) -> u16
-    requires { ⌜ (n ≤ 128) × (c < n) × (16384 ≤ length (now area)) × (length (now next) ≡ 16512) ⌝ }
+    requires { ⌜ (n ≤ mostTypes) × (c < n) × (distanceArea ≤ length (now area)) × (length (now next) ≡ followersSize) ⌝ }
     ensures { λ r. ⌜ Follower (now (area .entry)) n c (c + 1) r
         × FollowLine (now (area .entry)) n c (c + 1) (now (next .entry)) (now (next .exit)) ⌝ }
 {
-    let line = 129 * c;
+    let line = FOLLOWERS_LINE * c;
     let mut i = n;
     let mut follower = n as u16;
     next[line + i] = follower;
     while c + 1 < i {
         i -= 1;
-        if area[128 * i + c] == 1 {
+        if area[LINE * i + c] == 1 {
             follower = i as u16;
         }
         next[line + i] = follower;
@@ -41,12 +52,12 @@ fn follow_above(area: &[u16], next: &mut [u16], n: usize, c: usize) -> u16
 
 // The rest of line c, whose follower behind place c is known. Types below c have their marks along line c of the area.
 fn follow_below(area: &[u16], next: &mut [u16], n: usize, c: usize, above: u16)
-    requires { ⌜ (n ≤ 128) × (c < n) × (16384 ≤ length (now area)) × (length (now next) ≡ 16512)
+    requires { ⌜ (n ≤ mostTypes) × (c < n) × (distanceArea ≤ length (now area)) × (length (now next) ≡ followersSize)
         × Follower (now area) n c (c + 1) above × FollowLine (now area) n c (c + 1) (now next) (now next) ⌝ }
     ensures { λ _. ⌜ FollowLine (now (area .entry)) n c 0 (now (next .entry)) (now (next .exit)) ⌝ }
 {
-    let line = 129 * c;
-    let marks = 128 * c;
+    let line = FOLLOWERS_LINE * c;
+    let marks = LINE * c;
     let mut i = c;
     let mut follower = above;
     next[line + i] = follower;
@@ -61,7 +72,7 @@ fn follow_below(area: &[u16], next: &mut [u16], n: usize, c: usize, above: u16)
 
 // For each of n types, and each place, the first type from there on that is linked with it; 129 places to a type.
 pub fn followers(area: &[u16], next: &mut [u16], n: usize)
-    requires { ⌜ (n ≤ 128) × (16384 ≤ length (now area)) × (length (now next) ≡ 16512) ⌝ }
+    requires { ⌜ (n ≤ mostTypes) × (distanceArea ≤ length (now area)) × (length (now next) ≡ followersSize) ⌝ }
     ensures { λ _. ⌜ Followers (now (area .entry)) n (now (next .exit)) ⌝ }
 {
     let mut c = 0;
@@ -87,24 +98,24 @@ pub fn in_order(c: usize, a: usize, b: usize) -> Triplet
 
 // No candidate of a triplet costs less than this, by its distances: half their sum. Where one type lies between the other two it is
 // their only median vector, and there is no candidate: more than any cost.
-pub fn least_cost(area: &[u16], t: Triplet) -> usize
-    requires { ⌜ (t .u < 128) × (t .v < 128) × (t .w < 128) × (16384 ≤ length (now area)) ⌝ }
-    ensures { λ r. ⌜ r ≡ leastCost (now (area .entry)) t ⌝ }
+pub fn cost_floor(area: &[u16], t: Triplet) -> usize
+    requires { ⌜ (t .u < mostTypes) × (t .v < mostTypes) × (t .w < mostTypes) × (distanceArea ≤ length (now area)) ⌝ }
+    ensures { λ r. ⌜ r ≡ costFloor (now (area .entry)) t ⌝ }
 {
     let u = t.u;
     let v = t.v;
     let w = t.w;
-    let uv = area[128 * u + v] as usize;
-    let uw = area[128 * u + w] as usize;
-    let vw = area[128 * v + w] as usize;
+    let uv = area[LINE * u + v] as usize;
+    let uw = area[LINE * u + w] as usize;
+    let vw = area[LINE * v + w] as usize;
     if uv + vw == uw {
-        return 200000;
+        return NO_COST;
     }
     if uv + uw == vw {
-        return 200000;
+        return NO_COST;
     }
     if uw + vw == uv {
-        return 200000;
+        return NO_COST;
     }
     (uv + uw + vw) / 2
 }

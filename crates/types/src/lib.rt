@@ -7,30 +7,33 @@ ghost use mathlib.Core.Path.{_≡_};
 ghost use Prim.Native.Nat.{_+_, _*_, _≤_};
 ghost use lib.ListN.{length, replicate};
 ghost use Rattle.graph.specs.Below.{first};
+ghost use Rattle.rules.specs.Sizes.{mostTypes, rowSize};
 ghost use Rattle.rules.specs.Types.{sameRow};
 ghost use Rattle.types.specs.State.{storedAt, blank};
 use memory::copy;
 use memory::eight_at;
 use rules::Kind;
+use rules::MOST_TYPES;
 use rules::Origin;
+use rules::ROW;
 
 // The row of type i, as it is stored.
-pub fn row_at(states: &[u8], i: usize) -> [u8; 64]
-    requires { ⌜ 64 * i + 64 ≤ length (now states) ⌝ }
+pub fn row_at(states: &[u8], i: usize) -> [u8; ROW]
+    requires { ⌜ rowSize * i + rowSize ≤ length (now states) ⌝ }
     ensures { λ r. ⌜ r ≡ storedAt (now (states .entry)) i ⌝ }
 {
-    let from = 64 * i;
-    let mut row = [0u8; 64];
-    copy(&states[from..from + 64], &mut row, 0);
+    let from = ROW * i;
+    let mut row = [0u8; ROW];
+    copy(&states[from..from + ROW], &mut row, 0);
     row
 }
 
 // Whether type i of the state area has this row: eight bytes are compared at once.
-pub fn same_row(states: &[u8], i: usize, row: &[u8; 64]) -> bool
-    requires { ⌜ 64 * i + 64 ≤ length (now states) ⌝ }
+pub fn same_row(states: &[u8], i: usize, row: &[u8; ROW]) -> bool
+    requires { ⌜ rowSize * i + rowSize ≤ length (now states) ⌝ }
     ensures { λ r. ⌜ r ≡ sameRow (storedAt (now (states .entry)) i) (now (row .entry)) ⌝ }
 {
-    let at = 64 * i;
+    let at = ROW * i;
     // as a slice, the row is known to have 64 bytes
     let bytes: &[u8] = row;
     let mut k = 0;
@@ -44,8 +47,8 @@ pub fn same_row(states: &[u8], i: usize, row: &[u8; 64]) -> bool
 }
 
 // The first of t types that has this row, or t where none does.
-pub fn find_row(states: &[u8], t: usize, row: &[u8; 64]) -> usize
-    requires { ⌜ 64 * t ≤ length (now states) ⌝ }
+pub fn find_row(states: &[u8], t: usize, row: &[u8; ROW]) -> usize
+    requires { ⌜ rowSize * t ≤ length (now states) ⌝ }
     ensures { λ r. ⌜ r ≡ first t (λ i. sameRow (storedAt (now (states .entry)) i) (now (row .entry))) ⌝ }
 {
     let mut i = 0;
@@ -59,10 +62,10 @@ pub fn find_row(states: &[u8], t: usize, row: &[u8; 64]) -> usize
 }
 
 // Room for 128 kinds, none of them in use.
-pub fn no_kinds() -> [Kind; 128]
-    ensures { λ r. ⌜ r ≡ replicate 128 blank ⌝ }
+pub fn no_kinds() -> [Kind; MOST_TYPES]
+    ensures { λ r. ⌜ r ≡ replicate mostTypes blank ⌝ }
 {
     [Kind {
         origin: Origin::Sampled { rows: 0, first: 0 },
-    }; 128]
+    }; MOST_TYPES]
 }

@@ -1,9 +1,10 @@
-// The room of the sampled types: equal rows of a job become one type, and over 128 types are refused. It reads the job and writes the
+// The corner of the sampled types: equal rows of a job become one type, and over 128 types are refused. It reads the job and writes the
 // state area.
 
 ghost use mathlib.Core.Path.{_≡_};
 ghost use Prim.Native.Nat.{_≤_, _<_};
 ghost use lib.ListN.{length};
+ghost use Rattle.rules.specs.Sizes.{mostRows, stateArea};
 ghost use Rattle.rules.specs.Answers.{number};
 ghost use Rattle.rules.specs.Job.{rows, width, checked};
 ghost use Rattle.rules.specs.Types.{rowCount};
@@ -14,13 +15,15 @@ use crate::no_kinds;
 use memory::copy;
 use rules::Answer;
 use rules::Kind;
+use rules::MOST_TYPES;
 use rules::Origin;
+use rules::ROW;
 
 // What the rows collapse to: how many types there are, and their kinds; or the refusal TYPES.
 pub struct Sample {
     pub answer: Answer,
     pub types: usize,
-    pub kinds: [Kind; 128],
+    pub kinds: [Kind; MOST_TYPES],
 }
 
 // A type that has row k alone, so far.
@@ -34,7 +37,7 @@ fn single(k: usize) -> Kind
 
 // A sampled type with one row more.
 fn one_more(kind: Kind) -> Kind
-    requires { ⌜ rowCount (kind .origin) < 256 ⌝ }
+    requires { ⌜ rowCount (kind .origin) < mostRows ⌝ }
     ensures { λ r. ⌜ r ≡ oneMore kind ⌝ }
 {
     let origin = kind.origin;
@@ -51,7 +54,7 @@ fn one_more(kind: Kind) -> Kind
 
 // Equal rows become one sampled type, with the count of its rows; types are numbered by first row.
 pub fn collapse(job: &[u8], states: &mut [u8], n: usize, m: usize) -> Sample
-    requires { ⌜ (number (checked (now job)) ≡ 0) × (n ≡ rows (now job)) × (m ≡ width (now job)) × (8192 ≤ length (now states)) ⌝ }
+    requires { ⌜ (number (checked (now job)) ≡ 0) × (n ≡ rows (now job)) × (m ≡ width (now job)) × (stateArea ≤ length (now states)) ⌝ }
     ensures { λ r. ⌜ Collapsed (now (job .entry)) (now (states .entry)) (now (states .exit)) r ⌝ }
 {
     let mut kinds = no_kinds();
@@ -64,14 +67,14 @@ pub fn collapse(job: &[u8], states: &mut [u8], n: usize, m: usize) -> Sample
         if i < types {
             let kind = kinds[i];
             kinds[i] = one_more(kind);
-        } else if types == 128 {
+        } else if types == MOST_TYPES {
             return Sample {
                 answer: Answer::Types { place: k },
                 types,
                 kinds,
             };
         } else {
-            copy(&row, states, 64 * types);
+            copy(&row, states, ROW * types);
             kinds[types] = alone;
             types += 1;
         }

@@ -5,9 +5,6 @@ use Rattle.answers.proofs.First.{first-refuses, first-passes}
 use Rattle.answers.proofs.first_of.Statement.{statement}
 use Rattle.answers.proofs.first_of.Tie as tie
 
-tell-requires : tie.Need-tell-requires
-tell-requires c κs = search needs
-
 returns : tie.Need-returns
 returns c = first-refuses _ _ (λ z. c .if1 .taken (c .before .before .tell .ensures .number-is ∙ z))
 
@@ -15,4 +12,4 @@ returns-2 : tie.Need-returns-2
 returns-2 c = first-passes (c .before .before .before .args .a) _ (sym (c .before .before .tell .ensures .number-is) ∙ c .if1 .left)
 
 pub first-of-spec : {M : Type 1} → statement M
-first-of-spec = tie.close (tie.spec tell-requires returns returns-2)
+first-of-spec = tie.close (tie.spec (λ c κs. search needs) returns returns-2)

@@ -11,46 +11,13 @@ Inv-loop states weights i j a b sum₀ c₀ sum c = Summed weights states i j c 
 abbrev μ-loop : tie.MeasureT-loop
 μ-loop states weights i j a b sum₀ c₀ sum c = 64 - c
 
-mul-a : tie.Need-mul-a Inv-loop μ-loop
-mul-a c = omega arith
-
-mul-b : tie.Need-mul-b Inv-loop μ-loop
-mul-b c = omega arith
-
 loop-holds : tie.Need-loop-holds Inv-loop μ-loop
 loop-holds c = none-summed _ _ _ _
-
-add-counted : tie.Need-add-counted Inv-loop μ-loop
-add-counted c = omega arith
-
-shared-slice-read-counted : tie.Need-shared-slice-read-counted Inv-loop μ-loop
-shared-slice-read-counted c = omega arith
-
-add-counted-2 : tie.Need-add-counted-2 Inv-loop μ-loop
-add-counted-2 c = omega arith
-
-shared-slice-read-counted-2 : tie.Need-shared-slice-read-counted-2 Inv-loop μ-loop
-shared-slice-read-counted-2 c = omega arith
-
-mul-counted : tie.Need-mul-counted Inv-loop μ-loop
-mul-counted c = omega arith
-
-shared-slice-read-counted-3 : tie.Need-shared-slice-read-counted-3 Inv-loop μ-loop
-shared-slice-read-counted-3 c = omega arith
-
-counted-requires : tie.Need-counted-requires Inv-loop μ-loop
-counted-requires c κs = tt
 
 add-sum : tie.Need-add-sum Inv-loop μ-loop
 add-sum c =
     let l = c .before .before .before .before .before in
     omega (arith, c .counted .ensures, l .loop .inv .small, counts-little _ _ _ _ (c .before .before .before .before .loop-test .taken) (l .loop .inv) (l .before .before .before .pre .0))
-
-add-c : tie.Need-add-c Inv-loop μ-loop
-add-c c = omega arith
-
-loop-less : tie.Need-loop-less Inv-loop μ-loop
-loop-less c = omega arith
 
 loop-again : tie.Need-loop-again Inv-loop μ-loop
 loop-again c =
@@ -68,18 +35,18 @@ distance-spec =
     (tie.spec
     Inv-loop
     μ-loop
-    mul-a
-    mul-b
+    (λ c. omega arith)
+    (λ c. omega arith)
     loop-holds
-    add-counted
-    shared-slice-read-counted
-    add-counted-2
-    shared-slice-read-counted-2
-    mul-counted
-    shared-slice-read-counted-3
-    counted-requires
+    (λ c. omega arith)
+    (λ c. omega arith)
+    (λ c. omega arith)
+    (λ c. omega arith)
+    (λ c. omega arith)
+    (λ c. omega arith)
+    (λ c κs. tt)
     add-sum
-    add-c
-    loop-less
+    (λ c. omega arith)
+    (λ c. omega arith)
     loop-again
     returns)

@@ -2,14 +2,14 @@
 use mathlib.Core.Path.{refl}
 use Prim.Native.Nat.{_-_, _≤_, max}
 use native.Mathlib.Omega.{arith}
-use Rattle.distances.specs.Area.{Written, New, storedApart}
+use Rattle.distances.specs.Area.{CellsWritten, New, storedApart}
 use Rattle.distances.proofs.Area.{none-written, written-as, written-both, new-narrow, new-more, new-up-to}
 use Rattle.distances.proofs.measure.Statement.{statement}
 use Rattle.distances.proofs.measure.Tie as tie
 
 abbrev Inv-loop : tie.InvT-loop
 Inv-loop states area₀ weights from to j₀ area j =
-    (from ≤ j) × (j ≤ max from to) × Written (New from j) (storedApart weights states) area₀ area
+    (from ≤ j) × (j ≤ max from to) × CellsWritten (New from j) (storedApart weights states) area₀ area
 
 abbrev μ-loop : tie.MeasureT-loop
 μ-loop states area₀ weights from to j₀ area j = to - j
@@ -22,12 +22,6 @@ measure-one-requires c κs =
     let l = c .before .before in
     let s = l .before .before .before .before in
     (s .pre .0, omega arith, omega arith, omega (arith, l .loop .inv .2 .size))
-
-add-j : tie.Need-add-j Inv-loop μ-loop
-add-j c = omega arith
-
-loop-less : tie.Need-loop-less Inv-loop μ-loop
-loop-less c = omega arith
 
 loop-again : tie.Need-loop-again Inv-loop μ-loop
 loop-again c =
@@ -49,4 +43,4 @@ returns c =
 pub measure-spec : {M : Type 1} → statement M
 measure-spec =
     tie.close
-    (tie.spec Inv-loop μ-loop loop-holds measure-one-requires add-j loop-less loop-again same-length returns)
+    (tie.spec Inv-loop μ-loop loop-holds measure-one-requires (λ c. omega arith) (λ c. omega arith) loop-again same-length returns)

@@ -2,13 +2,13 @@
 use mathlib.Core.Path.{_≡_, refl}
 use Prim.Native.Nat.{_-_, _≤_}
 use native.Mathlib.Omega.{arith}
-use Rattle.distances.specs.Area.{Written, storedApart}
+use Rattle.distances.specs.Area.{CellsWritten, storedApart}
 use Rattle.distances.proofs.Area.{Column, column-more, column-new, none-written, written-as, written-more}
 use Rattle.distances.proofs.measure_one.Statement.{statement}
 use Rattle.distances.proofs.measure_one.Tie as tie
 
 abbrev Inv-loop : tie.InvT-loop
-Inv-loop states area₀ weights j i₀ area i = (i ≤ j) × Written (Column i j) (storedApart weights states) area₀ area
+Inv-loop states area₀ weights j i₀ area i = (i ≤ j) × CellsWritten (Column i j) (storedApart weights states) area₀ area
 
 abbrev μ-loop : tie.MeasureT-loop
 μ-loop states area₀ weights j i₀ area i = j - i
@@ -18,24 +18,6 @@ loop-holds c = (omega arith, none-written (λ a b t. omega arith))
 
 distance-requires : tie.Need-distance-requires Inv-loop μ-loop
 distance-requires c κs = let p = c .before .before .before .before .before .pre in (p .0, omega arith, p .2)
-
-mul-area : tie.Need-mul-area Inv-loop μ-loop
-mul-area c = omega arith
-
-add-area : tie.Need-add-area Inv-loop μ-loop
-add-area c = omega arith
-
-mul-area-2 : tie.Need-mul-area-2 Inv-loop μ-loop
-mul-area-2 c = omega arith
-
-slice-write-area : tie.Need-slice-write-area Inv-loop μ-loop
-slice-write-area c = omega arith
-
-add-i : tie.Need-add-i Inv-loop μ-loop
-add-i c = omega arith
-
-loop-less : tie.Need-loop-less Inv-loop μ-loop
-loop-less c = omega arith
 
 loop-again : tie.Need-loop-again Inv-loop μ-loop
 loop-again c =
@@ -65,12 +47,12 @@ measure-one-spec =
     μ-loop
     loop-holds
     distance-requires
-    mul-area
-    add-area
-    mul-area-2
-    slice-write-area
-    add-i
-    loop-less
+    (λ c. omega arith)
+    (λ c. omega arith)
+    (λ c. omega arith)
+    (λ c. omega arith)
+    (λ c. omega arith)
+    (λ c. omega arith)
     loop-again
     same-length
     returns)

@@ -10,8 +10,8 @@ use Rattle.graph.specs.Below.{gather}
 use Rattle.graph.proofs.Below.{table-ext, length-table, getD-table}
 use Rattle.rules.specs.Job.{Bytes}
 use Rattle.fasta.specs.Lines.{isState}
-use Rattle.fasta.specs.Answers.{refuses, passed}
-use Rattle.fasta.specs.declared.made.Made.{Made}
+use Rattle.fasta.specs.Answers.{refuses, noFault}
+use Rattle.fasta.specs.declared.conversion.Conversion.{Conversion}
 use Rattle.fasta.specs.Sequences.{opened, joined}
 use Rattle.fasta.specs.Refusals.{held, faultAt}
 use Rattle.fasta.specs.Read.{lengthsTo, CountedTo, Taken}
@@ -58,13 +58,13 @@ module _ (text : Bytes) (i : ℕ) where
       ])
 
   -- A fault is not counted, and a byte that passes is.
-  pub taken-fault : {lengths : Bytes} {r : Made} → faultAt text i ≡ r → refuses r ≡ true → lengths ≡ lengthsTo text i → Taken text i lengths r
+  pub taken-fault : {lengths : Bytes} {r : Conversion} → faultAt text i ≡ r → refuses r ≡ true → lengths ≡ lengthsTo text i → Taken text i lengths r
   taken-fault e t l = record { fault-is = sym e; lengths-are = rw (e, t) l }
 
-  pub taken-passed : {lengths : Bytes} → faultAt text i ≡ passed → lengths ≡ lengthsTo text (suc i) → Taken text i lengths passed
+  pub taken-passed : {lengths : Bytes} → faultAt text i ≡ noFault → lengths ≡ lengthsTo text (suc i) → Taken text i lengths noFault
   taken-passed e l = record { fault-is = sym e; lengths-are = rw e l }
 
-  module _ {lengths : Bytes} {r : Made} (t : Taken text i lengths r) where
+  module _ {lengths : Bytes} {r : Conversion} (t : Taken text i lengths r) where
     pub fault-left : refuses r ≡ true → lengths ≡ lengthsTo text i
     fault-left e = t .lengths-are ∙ rw (← t .fault-is, e)
 

@@ -9,14 +9,15 @@ use lib.ListN.{length, length-append}
 use borrow.Author.Tests.{lt-ltb, le-ltb, eq-eqb, ne-eqb, ltb-false, eqb-true}
 use Rattle.graph.specs.Below.{gather, only, sum}
 use Rattle.graph.proofs.Below.{In, in-gather, in-only, sum-more, first-before, first-hits}
+use Rattle.rules.specs.Answers.{when_refuse_else_}
 use Rattle.rules.specs.Job.{Bytes, outside}
 use Rattle.rules.proofs.Job.{Within, within}
 use Rattle.fasta.specs.Lines.{byteAt, opens, isState}
-use Rattle.fasta.proofs.fasta_lines.Lines.{no-opener}
-use Rattle.fasta.specs.Answers.{refuses, when_refuse_else_, passed}
-use Rattle.fasta.specs.declared.made.Made.{Made}
-use Rattle.fasta.specs.declared.made.Made.the-variants.{Before, Byte, Wide, Many}
-use Rattle.fasta.proofs.made.Answers.{not-refused}
+use Rattle.fasta.proofs.lines.Lines.{no-opener}
+use Rattle.fasta.specs.Answers.{refuses, noFault}
+use Rattle.fasta.specs.declared.conversion.Conversion.{Conversion}
+use Rattle.fasta.specs.declared.conversion.Conversion.the-variants.{Before, Byte, Wide, Many}
+use Rattle.fasta.proofs.conversion.Answers.{not-no-size}
 use Rattle.fasta.specs.Sequences.{opened, inSequence, joined}
 use Rattle.fasta.specs.Refusals.{beforeFirst, inSome, badByte, held, oneTooWide, oneTooMany, faultAt, firstFault}
 
@@ -35,7 +36,7 @@ module _ (text : Bytes) (i : ℕ) (s : isState text i ≡ true) where
       wide-is h =
           rw (s, ne-eqb (opened text i) 0 (omega arith), lt-ltb 0 (opened text i) some, good, lt-ltb 64 (suc (held text i)) (omega arith))
 
-      pub state-passes : held text i < 64 → faultAt text i ≡ passed
+      pub state-passes : held text i < 64 → faultAt text i ≡ noFault
       state-passes h =
           rw (
             s,
@@ -49,14 +50,14 @@ module _ (text : Bytes) (i : ℕ) (s : isState text i ≡ true) where
 -- ── Of any other byte ──
 
 module _ (text : Bytes) (i : ℕ) (s : isState text i ≡ false) where
-  pub skipped-passes : opens text i ≡ false → faultAt text i ≡ passed
+  pub skipped-passes : opens text i ≡ false → faultAt text i ≡ noFault
   skipped-passes o = rw (s, o)
 
   module _ (o : opens text i ≡ true) where
     pub many-is : 256 ≤ opened text i → faultAt text i ≡ Many i
     many-is h = rw (s, o, lt-ltb 256 (suc (opened text i)) (omega arith))
 
-    pub opener-passes : opened text i < 256 → faultAt text i ≡ passed
+    pub opener-passes : opened text i < 256 → faultAt text i ≡ noFault
     opener-passes h = rw (s, o, le-ltb 256 (suc (opened text i)) (omega arith))
 
 -- ── No fault ──
@@ -70,10 +71,10 @@ pub record NoFault (text : Bytes) (i : ℕ) : Type 0 where
 
 pub no-fault : (text : Bytes) (i : ℕ) → refuses (faultAt text i) ≡ false → NoFault text i
 no-fault text i e =
-    let s1 = not-refused (beforeFirst text i) (Before i) _ e (λ t. refl) in
-    let s2 = not-refused (badByte text i) (Byte i) _ (s1 .1) (λ t. refl) in
-    let s3 = not-refused (oneTooWide text i) (Wide i) _ (s2 .1) (λ t. refl) in
-    let s4 = not-refused (oneTooMany text i) (Many i) passed (s3 .1) (λ t. refl) in
+    let s1 = not-no-size (beforeFirst text i) (Before i) _ e (λ t. refl) in
+    let s2 = not-no-size (badByte text i) (Byte i) _ (s1 .1) (λ t. refl) in
+    let s3 = not-no-size (oneTooWide text i) (Wide i) _ (s2 .1) (λ t. refl) in
+    let s4 = not-no-size (oneTooMany text i) (Many i) noFault (s3 .1) (λ t. refl) in
     record { not-before = s1 .0; not-bad = s2 .0; not-wide = s3 .0; not-many = s4 .0 }
 
 -- No fault before a byte.

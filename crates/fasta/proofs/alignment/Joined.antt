@@ -13,7 +13,7 @@ use Rattle.graph.specs.Below.{gather, only, sum}
 use Rattle.graph.proofs.Below.{is-false, gather-ext}
 use Rattle.rules.specs.Job.{Bytes, Row}
 use Rattle.fasta.specs.Lines.{byteAt, opens, isState}
-use Rattle.fasta.proofs.fasta_lines.Lines.{no-opener}
+use Rattle.fasta.proofs.lines.Lines.{no-opener}
 use Rattle.fasta.specs.Sequences.{opened, inSequence, joined, sequences, sequence, states}
 use Rattle.fasta.proofs.alignment.Faults.{Clear, NoFault, no-fault, joined-more, in-some, second-false}
 

@@ -9,11 +9,11 @@ use borrow.Author.Tests.{ltb-true, ltb-false, eqb-true, eqb-false, not-false}
 use Rattle.graph.specs.Below.{first}
 use Rattle.graph.proofs.Below.{first-before}
 use Rattle.rules.specs.Job.{Bytes}
-use Rattle.fasta.specs.Answers.{refuses, passed}
-use Rattle.fasta.specs.declared.made.Made.the-variants.{Empty, Uneven}
-use Rattle.fasta.proofs.made.Answers.{not-refused}
+use Rattle.fasta.specs.Answers.{refuses, noFault}
+use Rattle.fasta.specs.declared.conversion.Conversion.the-variants.{Empty, Uneven}
+use Rattle.fasta.proofs.conversion.Answers.{not-no-size}
 use Rattle.fasta.specs.Sequences.{sequences, sequence}
-use Rattle.fasta.specs.Refusals.{faultAt, firstFault, firstEmpty, firstUneven, measured}
+use Rattle.fasta.specs.Refusals.{faultAt, firstFault, firstEmpty, firstUneven, checkedText}
 use Rattle.fasta.proofs.alignment.Faults.{Clear, fault-there, all-clear, few-opened, few-states}
 
 -- Each test of the text passes it.
@@ -23,14 +23,14 @@ record Tested (text : Bytes) : Type 0 where
   filled : ltb (firstEmpty text) (sequences text) ≡ false
   alike : ltb (firstUneven text) (sequences text) ≡ false
 
-tested : (text : Bytes) → refuses (measured text) ≡ false → Tested text
-unfolding measured
+tested : (text : Bytes) → refuses (checkedText text) ≡ false → Tested text
+unfolding checkedText
 tested text e =
     let at = firstFault text in
-    let s1 = not-refused (ltb at (length text)) (faultAt text at) _ e (λ t. fault-there text (ltb-true at (length text) t)) in
-    let s2 = not-refused (eqb (sequences text) 0) (Empty 0) _ (s1 .1) (λ t. refl) in
-    let s3 = not-refused (ltb (firstEmpty text) (sequences text)) (Empty (firstEmpty text)) _ (s2 .1) (λ t. refl) in
-    let s4 = not-refused (ltb (firstUneven text) (sequences text)) (Uneven (firstUneven text)) passed (s3 .1) (λ t. refl) in
+    let s1 = not-no-size (ltb at (length text)) (faultAt text at) _ e (λ t. fault-there text (ltb-true at (length text) t)) in
+    let s2 = not-no-size (eqb (sequences text) 0) (Empty 0) _ (s1 .1) (λ t. refl) in
+    let s3 = not-no-size (ltb (firstEmpty text) (sequences text)) (Empty (firstEmpty text)) _ (s2 .1) (λ t. refl) in
+    let s4 = not-no-size (ltb (firstUneven text) (sequences text)) (Uneven (firstUneven text)) noFault (s3 .1) (λ t. refl) in
     record { faultless = s1 .0; begun = s2 .0; filled = s3 .0; alike = s4 .0 }
 
 -- Where the first of n that passes is not below n, none does.
@@ -45,7 +45,7 @@ pub record Readable (text : Bytes) : Type 0 where
   pub narrow : length (sequence text 0) ≤ 64
   pub even : (k : ℕ) → k < sequences text → length (sequence text k) ≡ length (sequence text 0)
 
-pub readable : (text : Bytes) → refuses (measured text) ≡ false → Readable text
+pub readable : (text : Bytes) → refuses (checkedText text) ≡ false → Readable text
 unfolding firstEmpty firstUneven
 readable text e =
     let t = tested text e in

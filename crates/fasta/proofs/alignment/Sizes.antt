@@ -11,15 +11,15 @@ use borrow.Author.Tests.{lt-ltb, le-ltb, eq-eqb, ne-eqb, ltb-true}
 use Rattle.graph.specs.Below.{first}
 use Rattle.graph.proofs.Below.{first-le, first-before, first-hits, first-is}
 use Rattle.rules.specs.Job.{Bytes, outside}
-use Rattle.fasta.specs.Answers.{refuses, passed}
-use Rattle.fasta.specs.declared.made.Made.{Made}
-use Rattle.fasta.specs.declared.made.Made.the-variants.{Empty, Uneven}
-use Rattle.fasta.proofs.made.Answers.{not-refused}
+use Rattle.fasta.specs.Answers.{refuses, noFault}
+use Rattle.fasta.specs.declared.conversion.Conversion.{Conversion}
+use Rattle.fasta.specs.declared.conversion.Conversion.the-variants.{Empty, Uneven}
+use Rattle.fasta.proofs.conversion.Answers.{not-no-size}
 use Rattle.fasta.specs.Sequences.{sequences, sequence}
-use Rattle.fasta.specs.Refusals.{faultAt, firstFault, firstEmpty, firstUneven, measured}
-use Rattle.fasta.specs.Read.{ReadAll, MeasuredAs}
+use Rattle.fasta.specs.Refusals.{faultAt, firstFault, firstEmpty, firstUneven, checkedText}
+use Rattle.fasta.specs.Read.{ReadAll, JobSizeOf}
 use Rattle.fasta.specs.declared.alignment.Reading.{Reading}
-use Rattle.fasta.specs.declared.alignment.Measured.{Measured}
+use Rattle.fasta.specs.declared.alignment.JobSize.{JobSize}
 use Rattle.fasta.proofs.alignment.Faults.{Clear, fault-there, all-clear, few-opened, few-states}
 use Rattle.fasta.proofs.alignment.Counted.{lengths-length, lengths-at}
 use Rattle.fasta.proofs.alignment.Answered.{no-first-fault}
@@ -49,11 +49,11 @@ first-ext n p q e =
 -- ── A text that was read to its end ──
 
 module _ (text : Bytes) {lengths : Bytes} {r : Reading} (read : ReadAll text lengths r) where
-  pub fault-measured : refuses (r .answer) ≡ true → measured text ≡ r .answer
-  unfolding measured
+  pub fault-measured : refuses (r .answer) ≡ true → checkedText text ≡ r .answer
+  unfolding checkedText
   fault-measured t = go (ltb (firstFault text) (length text)) refl
     where
-      go : (b : Bool) → ltb (firstFault text) (length text) ≡ b → measured text ≡ r .answer
+      go : (b : Bool) → ltb (firstFault text) (length text) ≡ b → checkedText text ≡ r .answer
       go true e = rw e (rw e at (sym (read .answer-is)))
       go false e = absurd (false≢true (sym (ap refuses (read .answer-is) ∙ rw e) ∙ t))
 
@@ -61,7 +61,7 @@ module _ (text : Bytes) {lengths : Bytes} {r : Reading} (read : ReadAll text len
     faultless : ltb (firstFault text) (length text) ≡ false
     faultless =
         let at = firstFault text in
-        not-refused (ltb at (length text)) (faultAt text at) passed (rw (read .answer-is) at e) (λ t. fault-there text (ltb-true at (length text) t)) .0
+        not-no-size (ltb at (length text)) (faultAt text at) noFault (rw (read .answer-is) at e) (λ t. fault-there text (ltb-true at (length text) t)) .0
 
     clear : Clear text (length text)
     clear = all-clear text faultless
@@ -84,7 +84,7 @@ module _ (text : Bytes) {lengths : Bytes} {r : Reading} (read : ReadAll text len
     pub narrow : getD lengths 0 0 ≤ 64
     narrow = omega (arith, length-at 0 (omega arith), few-states text (length text) 0 clear)
 
-    pub passes-on : r .answer ≡ passed
+    pub passes-on : r .answer ≡ noFault
     passes-on = read .answer-is ∙ rw faultless
 
     -- A test of the lengths in memory is one of the sequences.
@@ -95,8 +95,8 @@ module _ (text : Bytes) {lengths : Bytes} {r : Reading} (read : ReadAll text len
         (first-ext (sequences text) _ _ (λ k h.
         rw (length-at k (omega (arith, rows-are, few-rows))) (f (length (sequence text k)) (few-states text (length text) k clear))))
 
-    pub none-measured : r .begun ≡ 0 → measured text ≡ Empty 0
-    unfolding measured
+    pub none-measured : r .begun ≡ 0 → checkedText text ≡ Empty 0
+    unfolding checkedText
     none-measured z = rw (faultless, eq-eqb (sequences text) 0 (sym rows-are ∙ z))
 
     module _ (some : r .begun ≢ 0) (k : ℕ) (is : k ≡ first (r .begun) (λ j. outside 1 64 (getD lengths j 0))) where
@@ -107,8 +107,8 @@ module _ (text : Bytes) {lengths : Bytes} {r : Reading} (read : ReadAll text len
       unfolding firstEmpty
       empty-is = is ∙ first-same (outside 1 64) (λ x. eqb x 0) outside-empty
 
-      pub empty-measured : k < r .begun → measured text ≡ Empty k
-      unfolding measured
+      pub empty-measured : k < r .begun → checkedText text ≡ Empty k
+      unfolding checkedText
       empty-measured h = rw (faultless, begins, ← empty-is, lt-ltb k (sequences text) (omega (arith, rows-are)))
 
       module _ (filled : r .begun ≤ k) (u : ℕ) (is′ : u ≡ first (r .begun) (λ j. outside (getD lengths 0 0) (getD lengths 0 0) (getD lengths j 0))) where
@@ -121,19 +121,19 @@ module _ (text : Bytes) {lengths : Bytes} {r : Reading} (read : ReadAll text len
         full : ltb (firstEmpty text) (sequences text) ≡ false
         full = le-ltb (firstEmpty text) (sequences text) (omega (arith, rows-are, empty-is))
 
-        pub uneven-measured : u < r .begun → measured text ≡ Uneven u
-        unfolding measured
+        pub uneven-measured : u < r .begun → checkedText text ≡ Uneven u
+        unfolding checkedText
         uneven-measured h = rw (faultless, begins, full, ← uneven-is, lt-ltb u (sequences text) (omega (arith, rows-are)))
 
-        pub even-measured : r .begun ≤ u → measured text ≡ passed
-        unfolding measured
+        pub even-measured : r .begun ≤ u → checkedText text ≡ noFault
+        unfolding checkedText
         even-measured h = rw (faultless, begins, full, le-ltb (firstUneven text) (sequences text) (omega (arith, rows-are, uneven-is)))
 
 -- ── What is handed back ──
 
-module _ (text : Bytes) {r : Measured} where
-  pub refused-as : {a : Made} → measured text ≡ a → refuses a ≡ true → (r .answer ≡ a) × (r .rows ≡ 0) × (r .width ≡ 0) → MeasuredAs text r
+module _ (text : Bytes) {r : JobSize} where
+  pub refused-as : {a : Conversion} → checkedText text ≡ a → refuses a ≡ true → (r .answer ≡ a) × (r .rows ≡ 0) × (r .width ≡ 0) → JobSizeOf text r
   refused-as m t (e, n, w) = record { answer-is = e ∙ sym m; rows-are = n ∙ rw (m, t); width-is = w ∙ rw (m, t) }
 
-  pub sized-as : measured text ≡ passed → r .answer ≡ passed → r .rows ≡ sequences text → r .width ≡ length (sequence text 0) → MeasuredAs text r
+  pub sized-as : checkedText text ≡ noFault → r .answer ≡ noFault → r .rows ≡ sequences text → r .width ≡ length (sequence text 0) → JobSizeOf text r
   sized-as m e n w = record { answer-is = e ∙ sym m; rows-are = n ∙ rw m; width-is = w ∙ rw m }

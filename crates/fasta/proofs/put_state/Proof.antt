@@ -13,23 +13,11 @@ use Rattle.fasta.proofs.put_state.Tie as tie
 state : (c : tie.Else1) → let a = c .before .before .before .before .args in isState (a .text .now) (a .i) ≡ true
 state c = sym (c .before .is-state .ensures) ∙ not-false _ (c .if1 .left)
 
-is-state-requires : tie.Need-is-state-requires
-is-state-requires c κs = search needs
-
 returns : tie.Need-returns
 returns c = rw (sym (c .before .is-state .ensures) ∙ not-true _ (c .if1 .taken)) (follows-none _ _)
 
-shared-slice-read-job : tie.Need-shared-slice-read-job
-shared-slice-read-job c = search needs
-
 slice-write-job : tie.Need-slice-write-job
 slice-write-job c = omega (arith, rw (state (c .before)) at (c .before .before .before .before .before .pre .1))
-
-add-result : tie.Need-add-result
-add-result c = search needs
-
-same-length : tie.Need-same-length
-same-length c = search needs
 
 returns-2 : tie.Need-returns-2
 returns-2 c = rw (state (c .before)) (stored _ _ _ (slice-write-job c))
@@ -38,10 +26,10 @@ pub put-state-spec : {M : Type 1} → statement M
 put-state-spec =
     tie.close
     (tie.spec
-    is-state-requires
+    (λ c κs. search needs)
     returns
-    shared-slice-read-job
+    (λ c. search needs)
     slice-write-job
-    add-result
-    same-length
+    (λ c. search needs)
+    (λ c. search needs)
     returns-2)

@@ -37,12 +37,6 @@ next-line-requires : tie.Need-next-line-requires Inv-loop μ-loop
 next-line-requires c κs =
     let i = c .before .before .before .before in record { starts = i .before .loop .inv .0; within = i .loop-test .taken }
 
-add-i : tie.Need-add-i Inv-loop μ-loop
-add-i c = omega arith
-
-loop-less : tie.Need-loop-less Inv-loop μ-loop
-loop-less c = omega arith
-
 loop-again : tie.Need-loop-again Inv-loop μ-loop
 loop-again c =
     let p = c .before .before .before in
@@ -53,9 +47,6 @@ loop-again c =
       omega arith,
       follows-more (stateAt (s .args .text .now)) (l .loop .i) (l .loop .inv .3) (omega (arith, s .pre)) (p .put-state .ensures),
     )
-
-same-length : tie.Need-same-length Inv-loop μ-loop
-same-length c = omega arith
 
 returns : tie.Need-returns Inv-loop μ-loop
 unfolding states
@@ -73,8 +64,8 @@ put-states-spec =
     loop-holds
     put-state-requires
     next-line-requires
-    add-i
-    loop-less
+    (λ c. omega arith)
+    (λ c. omega arith)
     loop-again
-    same-length
+    (λ c. omega arith)
     returns)

@@ -4,28 +4,10 @@ use Rattle.hurdlesong_c.proofs.Interface.{network-told, line-told}
 use Rattle.hurdlesong_c.proofs.hurdlesong_text.Statement.{statement}
 use Rattle.hurdlesong_c.proofs.hurdlesong_text.Tie as tie
 
-text-requires : tie.Need-text-requires
-text-requires c κs = search needs
-
-tell-text-requires : tie.Need-tell-text-requires
-tell-text-requires c κs = search needs
-
-same-length : tie.Need-same-length
-same-length c = search needs
-
 returns : tie.Need-returns
 returns c =
     let text = c .before .before .before in
     network-told (text .before .before .if1 .taken) (text .text .ensures) (c .tell-text .ensures)
-
-refusal-text-requires : tie.Need-refusal-text-requires
-refusal-text-requires c κs = search needs
-
-tell-text-requires-2 : tie.Need-tell-text-requires-2
-tell-text-requires-2 c κs = search needs
-
-same-length-2 : tie.Need-same-length-2
-same-length-2 c = search needs
 
 returns-2 : tie.Need-returns-2
 returns-2 c =
@@ -36,11 +18,11 @@ pub hurdlesong-text-spec : {M : Type 1} → statement M
 hurdlesong-text-spec =
     tie.close
     (tie.spec
-    text-requires
-    tell-text-requires
-    same-length
+    (λ c κs. search needs)
+    (λ c κs. search needs)
+    (λ c. search needs)
     returns
-    refusal-text-requires
-    tell-text-requires-2
-    same-length-2
+    (λ c κs. search needs)
+    (λ c κs. search needs)
+    (λ c. search needs)
     returns-2)

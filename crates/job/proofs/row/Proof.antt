@@ -27,17 +27,8 @@ add-from-2 c = omega (arith, within (c .before))
 add-to : tie.Need-add-to
 add-to c = omega (arith, within (c .before))
 
-sub-copy : tie.Need-sub-copy
-sub-copy c = search needs
-
-part-copy-start : tie.Need-part-copy-start
-part-copy-start c = search needs
-
 part-copy-end : tie.Need-part-copy-end
 part-copy-end c = omega (arith, within (c .before))
-
-slice-aggregate-copy : tie.Need-slice-aggregate-copy
-slice-aggregate-copy c = search needs
 
 copy-requires : tie.Need-copy-requires
 copy-requires c κs = simp length-take (omega (arith, within (c .before .before .before)))
@@ -57,9 +48,9 @@ row-spec =
     mul-from-2
     add-from-2
     add-to
-    sub-copy
-    part-copy-start
+    (λ c. search needs)
+    (λ c. search needs)
     part-copy-end
-    slice-aggregate-copy
+    (λ c. search needs)
     copy-requires
     returns)

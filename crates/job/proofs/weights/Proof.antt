@@ -34,20 +34,11 @@ add-word-at c = omega (arith, within (c .before .before .before))
 word-at-requires : tie.Need-word-at-requires Inv-loop μ-loop
 word-at-requires c κs = omega (arith, within (c .before .before .before))
 
-cast-w : tie.Need-cast-w Inv-loop μ-loop
-cast-w c = omega arith
-
 mul-w : tie.Need-mul-w Inv-loop μ-loop
 mul-w c = omega (arith, within (c .before .before .before .before))
 
 array-write-w : tie.Need-array-write-w Inv-loop μ-loop
 array-write-w c = omega (arith, within (c .before .before .before .before))
-
-add-c : tie.Need-add-c Inv-loop μ-loop
-add-c c = omega arith
-
-loop-less : tie.Need-loop-less Inv-loop μ-loop
-loop-less c = omega arith
 
 loop-again : tie.Need-loop-again Inv-loop μ-loop
 loop-again c =
@@ -74,10 +65,10 @@ weights-spec =
     mul-word-at
     add-word-at
     word-at-requires
-    cast-w
+    (λ c. omega arith)
     mul-w
     array-write-w
-    add-c
-    loop-less
+    (λ c. omega arith)
+    (λ c. omega arith)
     loop-again
     returns)

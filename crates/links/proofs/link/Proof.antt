@@ -5,18 +5,6 @@ use Rattle.links.proofs.Marks.{found}
 use Rattle.links.proofs.link.Statement.{statement}
 use Rattle.links.proofs.link.Tie as tie
 
-spans-requires : tie.Need-spans-requires
-spans-requires c κs = search needs
-
-mark-requires : tie.Need-mark-requires
-mark-requires c κs = search needs
-
-same-length : tie.Need-same-length
-same-length c = search needs
-
-same-length-2 : tie.Need-same-length-2
-same-length-2 c = search needs
-
 returns : tie.Need-returns
 returns c =
     let m = c .before .before in
@@ -26,4 +14,4 @@ returns c =
     found (a .n) (a .epsilon) (a .area .now) (omega arith) w spanned (m .mark .ensures)
 
 pub link-spec : {M : Type 1} → statement M
-link-spec = tie.close (tie.spec spans-requires mark-requires same-length same-length-2 returns)
+link-spec = tie.close (tie.spec (λ c κs. search needs) (λ c κs. search needs) (λ c. search needs) (λ c. search needs) returns)

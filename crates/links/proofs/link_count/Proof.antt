@@ -36,9 +36,6 @@ links-before-requires c κs =
     let m : c .if1 .before ≤ i = ⊎-elim (λ t. omega arith) (λ t. omega arith) (c .if1 .came) in
     (m, omega arith, omega arith)
 
-add-j : tie.Need-add-j Inv-loop μ-loop
-add-j c = omega arith
-
 loop-holds : tie.Need-loop-holds Inv-loop μ-loop
 loop-holds c =
     let a = c .before .before .before .args in
@@ -52,32 +49,11 @@ loop-holds c =
           (c .before .if1 .came),
     )
 
-mul-one : tie.Need-mul-one Inv-loop μ-loop
-mul-one c = omega arith
-
-add-one : tie.Need-add-one Inv-loop μ-loop
-add-one c = omega arith
-
-mul-one-2 : tie.Need-mul-one-2 Inv-loop μ-loop
-mul-one-2 c = omega arith
-
-shared-slice-read-one : tie.Need-shared-slice-read-one Inv-loop μ-loop
-shared-slice-read-one c = omega arith
-
-one-requires : tie.Need-one-requires Inv-loop μ-loop
-one-requires c κs = omega arith
-
 add-links : tie.Need-add-links Inv-loop μ-loop
 add-links c =
     let l = c .before .before .before in
     let a = l .before .before .before .before .args in
     omega (arith, count-le (l .loop .j + 1) (marked (a .area .now) (a .i)), counted c)
-
-add-j-2 : tie.Need-add-j-2 Inv-loop μ-loop
-add-j-2 c = omega arith
-
-loop-less : tie.Need-loop-less Inv-loop μ-loop
-loop-less c = omega arith
 
 loop-again : tie.Need-loop-again Inv-loop μ-loop
 loop-again c =
@@ -104,16 +80,16 @@ link-count-spec =
     Inv-loop
     μ-loop
     links-before-requires
-    add-j
+    (λ c. omega arith)
     loop-holds
-    mul-one
-    add-one
-    mul-one-2
-    shared-slice-read-one
-    one-requires
+    (λ c. omega arith)
+    (λ c. omega arith)
+    (λ c. omega arith)
+    (λ c. omega arith)
+    (λ c κs. omega arith)
     add-links
-    add-j-2
-    loop-less
+    (λ c. omega arith)
+    (λ c. omega arith)
     loop-again
     cast-result
     returns)

@@ -5,15 +5,6 @@ use borrow.Author.Tests.{eq-eqb, ne-eqb}
 use Rattle.links.proofs.linked.Statement.{statement}
 use Rattle.links.proofs.linked.Tie as tie
 
-mirrored-requires : tie.Need-mirrored-requires
-mirrored-requires c κs = search needs
-
-mul-result : tie.Need-mul-result
-mul-result c = search needs
-
-shared-slice-read-result : tie.Need-shared-slice-read-result
-shared-slice-read-result c = search needs
-
 returns : tie.Need-returns
 returns c =
     let a = c .before .before .before .before .args in
@@ -24,4 +15,4 @@ returns-2 c = let a = c .before .before .args in rw (eq-eqb (a .i) (a .j) (omega
 
 pub linked-spec : {M : Type 1} → statement M
 linked-spec =
-    tie.close (tie.spec mirrored-requires mul-result shared-slice-read-result returns returns-2)
+    tie.close (tie.spec (λ c κs. search needs) (λ c. search needs) (λ c. search needs) returns returns-2)

@@ -28,36 +28,15 @@ counted c =
     let more = rw e at (count-more (a .area .now) (a .i) (l .loop .j) (λ t. omega arith)) in
     omega (arith, more, l .loop .inv .1, c .one .ensures)
 
-mul-from : tie.Need-mul-from Inv-loop μ-loop
-mul-from c = omega arith
-
 loop-holds : tie.Need-loop-holds Inv-loop μ-loop
 unfolding sum
 loop-holds c = (omega arith, refl)
-
-add-one : tie.Need-add-one Inv-loop μ-loop
-add-one c = omega arith
-
-mul-one : tie.Need-mul-one Inv-loop μ-loop
-mul-one c = omega arith
-
-shared-slice-read-one : tie.Need-shared-slice-read-one Inv-loop μ-loop
-shared-slice-read-one c = omega arith
-
-one-requires : tie.Need-one-requires Inv-loop μ-loop
-one-requires c κs = omega arith
 
 add-links : tie.Need-add-links Inv-loop μ-loop
 add-links c =
     let l = c .before .before .before in
     let a = l .before .before .args in
     omega (arith, count-le (l .loop .j + 1) (marked (a .area .now) (a .i)), counted c)
-
-add-j : tie.Need-add-j Inv-loop μ-loop
-add-j c = omega arith
-
-loop-less : tie.Need-loop-less Inv-loop μ-loop
-loop-less c = omega arith
 
 loop-again : tie.Need-loop-again Inv-loop μ-loop
 loop-again c = (omega arith, counted c)
@@ -74,14 +53,14 @@ links-before-spec =
     (tie.spec
     Inv-loop
     μ-loop
-    mul-from
+    (λ c. omega arith)
     loop-holds
-    add-one
-    mul-one
-    shared-slice-read-one
-    one-requires
+    (λ c. omega arith)
+    (λ c. omega arith)
+    (λ c. omega arith)
+    (λ c κs. omega arith)
     add-links
-    add-j
-    loop-less
+    (λ c. omega arith)
+    (λ c. omega arith)
     loop-again
     returns)

@@ -2,7 +2,7 @@
 use mathlib.Core.Path.{_≡_}
 use Prim.Native.Nat.{_-_, _≤_}
 use native.Mathlib.Omega.{arith}
-use Rattle.distances.specs.Area.{Written}
+use Rattle.distances.specs.Area.{CellsWritten}
 use Rattle.distances.proofs.Area.{none-written}
 use Rattle.spans.specs.Tree.{Mirror}
 use Rattle.links.specs.Marks.{mark}
@@ -11,22 +11,13 @@ use Rattle.links.proofs.mark.Statement.{statement}
 use Rattle.links.proofs.mark.Tie as tie
 
 abbrev Inv-loop : tie.InvT-loop
-Inv-loop area₀ spans n epsilon j₀ area j = (j ≤ n) × Written (Mirror j) (mark epsilon spans area₀) area₀ area
+Inv-loop area₀ spans n epsilon j₀ area j = (j ≤ n) × CellsWritten (Mirror j) (mark epsilon spans area₀) area₀ area
 
 abbrev μ-loop : tie.MeasureT-loop
 μ-loop area₀ spans n epsilon j₀ area j = n - j
 
 loop-holds : tie.Need-loop-holds Inv-loop μ-loop
 loop-holds c = (omega arith, none-written (λ a b t. omega arith))
-
-mark-line-requires : tie.Need-mark-line-requires Inv-loop μ-loop
-mark-line-requires c κs = omega arith
-
-add-j : tie.Need-add-j Inv-loop μ-loop
-add-j c = omega arith
-
-loop-less : tie.Need-loop-less Inv-loop μ-loop
-loop-less c = omega arith
 
 loop-again : tie.Need-loop-again Inv-loop μ-loop
 loop-again c =
@@ -51,9 +42,9 @@ mark-spec =
     Inv-loop
     μ-loop
     loop-holds
-    mark-line-requires
-    add-j
-    loop-less
+    (λ c κs. omega arith)
+    (λ c. omega arith)
+    (λ c. omega arith)
     loop-again
     same-length
     returns)

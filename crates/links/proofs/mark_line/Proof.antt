@@ -2,7 +2,7 @@
 use mathlib.Core.Path.{_≡_}
 use Prim.Native.Nat.{_-_, _≤_}
 use native.Mathlib.Omega.{arith}
-use Rattle.distances.specs.Area.{Written, Line}
+use Rattle.distances.specs.Area.{CellsWritten, Line}
 use Rattle.distances.proofs.Area.{none-written}
 use Rattle.links.specs.Marks.{mark}
 use Rattle.links.proofs.Marks.{cell-marked}
@@ -10,55 +10,13 @@ use Rattle.links.proofs.mark_line.Statement.{statement}
 use Rattle.links.proofs.mark_line.Tie as tie
 
 abbrev Inv-loop : tie.InvT-loop
-Inv-loop area₀ spans epsilon j from i₀ area i = (i ≤ j) × Written (Line j i) (mark epsilon spans area₀) area₀ area
+Inv-loop area₀ spans epsilon j from i₀ area i = (i ≤ j) × CellsWritten (Line j i) (mark epsilon spans area₀) area₀ area
 
 abbrev μ-loop : tie.MeasureT-loop
 μ-loop area₀ spans epsilon j from i₀ area i = j - i
 
-mul-from : tie.Need-mul-from Inv-loop μ-loop
-mul-from c = omega arith
-
 loop-holds : tie.Need-loop-holds Inv-loop μ-loop
 loop-holds c = (omega arith, none-written (λ a b t. omega arith))
-
-add-mark-of : tie.Need-add-mark-of Inv-loop μ-loop
-add-mark-of c = omega arith
-
-mul-mark-of : tie.Need-mul-mark-of Inv-loop μ-loop
-mul-mark-of c = omega arith
-
-slice-read-mark-of : tie.Need-slice-read-mark-of Inv-loop μ-loop
-slice-read-mark-of c = omega arith
-
-add-mark-of-2 : tie.Need-add-mark-of-2 Inv-loop μ-loop
-add-mark-of-2 c = omega arith
-
-mul-mark-of-2 : tie.Need-mul-mark-of-2 Inv-loop μ-loop
-mul-mark-of-2 c = omega arith
-
-shared-slice-read-mark-of : tie.Need-shared-slice-read-mark-of Inv-loop μ-loop
-shared-slice-read-mark-of c = omega arith
-
-cast-mark-of : tie.Need-cast-mark-of Inv-loop μ-loop
-cast-mark-of c = omega arith
-
-mark-of-requires : tie.Need-mark-of-requires Inv-loop μ-loop
-mark-of-requires c κs = omega arith
-
-add-area : tie.Need-add-area Inv-loop μ-loop
-add-area c = omega arith
-
-mul-area : tie.Need-mul-area Inv-loop μ-loop
-mul-area c = omega arith
-
-slice-write-area : tie.Need-slice-write-area Inv-loop μ-loop
-slice-write-area c = omega arith
-
-add-i : tie.Need-add-i Inv-loop μ-loop
-add-i c = omega arith
-
-loop-less : tie.Need-loop-less Inv-loop μ-loop
-loop-less c = omega arith
 
 loop-again : tie.Need-loop-again Inv-loop μ-loop
 loop-again c =
@@ -84,21 +42,21 @@ mark-line-spec =
     (tie.spec
     Inv-loop
     μ-loop
-    mul-from
+    (λ c. omega arith)
     loop-holds
-    add-mark-of
-    mul-mark-of
-    slice-read-mark-of
-    add-mark-of-2
-    mul-mark-of-2
-    shared-slice-read-mark-of
-    cast-mark-of
-    mark-of-requires
-    add-area
-    mul-area
-    slice-write-area
-    add-i
-    loop-less
+    (λ c. omega arith)
+    (λ c. omega arith)
+    (λ c. omega arith)
+    (λ c. omega arith)
+    (λ c. omega arith)
+    (λ c. omega arith)
+    (λ c. omega arith)
+    (λ c κs. omega arith)
+    (λ c. omega arith)
+    (λ c. omega arith)
+    (λ c. omega arith)
+    (λ c. omega arith)
+    (λ c. omega arith)
     loop-again
     same-length
     returns)

@@ -7,9 +7,6 @@ use borrow.Author.Tests.{le-leb, lt-leb}
 use Rattle.links.proofs.mark_of.Statement.{statement}
 use Rattle.links.proofs.mark_of.Tie as tie
 
-sub-need : tie.Need-sub-need
-sub-need c = search needs
-
 returns : tie.Need-returns
 returns c =
     let a = c .before .before .args in
@@ -23,4 +20,4 @@ returns-2 c =
     rw (lt-leb (a .distance) (a .span + a .epsilon) h)
 
 pub mark-of-spec : {M : Type 1} → statement M
-mark-of-spec = tie.close (tie.spec sub-need returns returns-2)
+mark-of-spec = tie.close (tie.spec (λ c. search needs) returns returns-2)

@@ -27,15 +27,6 @@ word-at-requires-3 c κs = omega (arith, matched (c .before .before) .header .he
 returns : tie.Need-returns
 returns c = past _ _ _ (search) (omega arith)
 
-mul-word-at : tie.Need-mul-word-at
-mul-word-at c = search needs
-
-add-word-at : tie.Need-add-word-at
-add-word-at c = search needs
-
-add-word-at-2 : tie.Need-add-word-at-2
-add-word-at-2 c = search needs
-
 word-at-requires-4 : tie.Need-word-at-requires-4
 word-at-requires-4 c κs = omega (arith, matched (c .before .before .before .before) .header .reaches)
 
@@ -44,12 +35,6 @@ word-at-requires-5 c κs = omega (arith, matched (c .before .before .before .bef
 
 returns-2 : tie.Need-returns-2
 returns-2 c = sampled-out _ _ _ (search) (omega arith) (omega arith) (omega arith)
-
-mul-at : tie.Need-mul-at
-mul-at c = search needs
-
-add-at : tie.Need-add-at
-add-at c = search needs
 
 mul-at-2 : tie.Need-mul-at-2
 mul-at-2 c = omega (arith, small (c .before .before .before))
@@ -60,17 +45,8 @@ add-at-2 c = omega (arith, small (c .before .before .before))
 returns-3 : tie.Need-returns-3
 returns-3 c = sampled-row _ _ _ (search) (omega arith) (omega arith) (search) (search) (omega arith)
 
-sub-if4 : tie.Need-sub-if4
-sub-if4 c = search needs
-
 returns-4 : tie.Need-returns-4
 returns-4 c = inferred-out _ _ _ (search) (omega arith) (omega arith) (omega arith)
-
-mul-at-3 : tie.Need-mul-at-3
-mul-at-3 c = search needs
-
-add-at-3 : tie.Need-add-at-3
-add-at-3 c = search needs
 
 mul-at-4 : tie.Need-mul-at-4
 mul-at-4 c = omega (arith, small (c .before .before))
@@ -89,21 +65,21 @@ place-in-spec =
     word-at-requires-2
     word-at-requires-3
     returns
-    mul-word-at
-    add-word-at
-    add-word-at-2
+    (λ c. search needs)
+    (λ c. search needs)
+    (λ c. search needs)
     word-at-requires-4
     word-at-requires-5
     returns-2
-    mul-at
-    add-at
+    (λ c. search needs)
+    (λ c. search needs)
     mul-at-2
     add-at-2
     returns-3
-    sub-if4
+    (λ c. search needs)
     returns-4
-    mul-at-3
-    add-at-3
+    (λ c. search needs)
+    (λ c. search needs)
     mul-at-4
     add-at-4
     returns-5)

@@ -6,17 +6,11 @@ use Rattle.lookup.proofs.Rows.{unmatched}
 use Rattle.lookup.proofs.place_of.Statement.{statement}
 use Rattle.lookup.proofs.place_of.Tie as tie
 
-block-matches-requires : tie.Need-block-matches-requires
-block-matches-requires c κs = search needs
-
 returns : tie.Need-returns
 returns c = unmatched _ _ _ (sym (c .before .block-matches .ensures) ∙ not-true _ (c .if1 .taken))
 
 place-in-requires : tie.Need-place-in-requires
 place-in-requires c κs = sym (c .before .block-matches .ensures) ∙ not-false _ (c .if1 .left)
 
-returns-2 : tie.Need-returns-2
-returns-2 c = search needs
-
 pub place-of-spec : {M : Type 1} → statement M
-place-of-spec = tie.close (tie.spec block-matches-requires returns place-in-requires returns-2)
+place-of-spec = tie.close (tie.spec (λ c κs. search needs) returns place-in-requires (λ c. search needs))

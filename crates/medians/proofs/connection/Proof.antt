@@ -47,41 +47,8 @@ then-added c =
     (λ w. again-agree _ _ _ _ _ _ (⊎-map (λ z. (z .0 .taken, not-false _ (z .1 .left))) (λ z. z .left) (w .0 .came)) (w .1))
     (c .if2 .came)
 
-mul-first : tie.Need-mul-first Inv-loop μ-loop
-mul-first c = omega arith
-
-mul-second : tie.Need-mul-second Inv-loop μ-loop
-mul-second c = omega arith
-
-mul-third : tie.Need-mul-third Inv-loop μ-loop
-mul-third c = omega arith
-
 loop-holds : tie.Need-loop-holds Inv-loop μ-loop
 loop-holds c = none-costed _ _ _ _ _
-
-add-a : tie.Need-add-a Inv-loop μ-loop
-add-a c = omega arith
-
-shared-slice-read-a : tie.Need-shared-slice-read-a Inv-loop μ-loop
-shared-slice-read-a c = omega arith
-
-add-b : tie.Need-add-b Inv-loop μ-loop
-add-b c = omega arith
-
-shared-slice-read-b : tie.Need-shared-slice-read-b Inv-loop μ-loop
-shared-slice-read-b c = omega arith
-
-add-d : tie.Need-add-d Inv-loop μ-loop
-add-d c = omega arith
-
-shared-slice-read-d : tie.Need-shared-slice-read-d Inv-loop μ-loop
-shared-slice-read-d c = omega arith
-
-mul-cost : tie.Need-mul-cost Inv-loop μ-loop
-mul-cost c = omega arith
-
-shared-slice-read-cost : tie.Need-shared-slice-read-cost Inv-loop μ-loop
-shared-slice-read-cost c = omega arith
 
 cast-cost : tie.Need-cast-cost Inv-loop μ-loop
 cast-cost c = omega (arith, light (c .before .before .before .before .before .before) (omega arith))
@@ -90,12 +57,6 @@ add-cost : tie.Need-add-cost Inv-loop μ-loop
 add-cost c =
     let l = c .before .before .before .before .before .before in
     omega (arith, light l (omega arith), small l)
-
-mul-cost-2 : tie.Need-mul-cost-2 Inv-loop μ-loop
-mul-cost-2 c = omega arith
-
-shared-slice-read-cost-2 : tie.Need-shared-slice-read-cost-2 Inv-loop μ-loop
-shared-slice-read-cost-2 c = omega arith
 
 cast-cost-2 : tie.Need-cast-cost-2 Inv-loop μ-loop
 cast-cost-2 c = omega (arith, light (c .before .before .before .before .before .before .before .before) (omega arith))
@@ -107,12 +68,6 @@ add-cost-2 c =
     let more : j .if1 .cost ≤ l .loop .cost + weight l =
     ⊎-elim (λ w. omega (arith, w .2)) (λ w. omega (arith, w .1)) (j .if1 .came) in
     omega (arith, light l (omega arith), small l)
-
-add-c : tie.Need-add-c Inv-loop μ-loop
-add-c c = omega arith
-
-loop-less : tie.Need-loop-less Inv-loop μ-loop
-loop-less c = omega arith
 
 loop-again : tie.Need-loop-again Inv-loop μ-loop
 loop-again c =
@@ -133,26 +88,26 @@ connection-spec =
     (tie.spec
     Inv-loop
     μ-loop
-    mul-first
-    mul-second
-    mul-third
+    (λ c. omega arith)
+    (λ c. omega arith)
+    (λ c. omega arith)
     loop-holds
-    add-a
-    shared-slice-read-a
-    add-b
-    shared-slice-read-b
-    add-d
-    shared-slice-read-d
-    mul-cost
-    shared-slice-read-cost
+    (λ c. omega arith)
+    (λ c. omega arith)
+    (λ c. omega arith)
+    (λ c. omega arith)
+    (λ c. omega arith)
+    (λ c. omega arith)
+    (λ c. omega arith)
+    (λ c. omega arith)
     cast-cost
     add-cost
-    mul-cost-2
-    shared-slice-read-cost-2
+    (λ c. omega arith)
+    (λ c. omega arith)
     cast-cost-2
     add-cost-2
-    add-c
-    loop-less
+    (λ c. omega arith)
+    (λ c. omega arith)
     loop-again
     cast-result
     returns)

@@ -17,10 +17,10 @@ use Rattle.distances.specs.Area.{Weighed}
 use Rattle.medians.specs.Cost.{costAt}
 use Rattle.medians.proofs.Stored.{cost-any}
 use Rattle.triplets.specs.declared.Triplet.{Triplet}
-use Rattle.medians.specs.Known.{placeOf, rightGuess}
-use Rattle.medians.proofs.known.Place.{IsKnown, known-is, guess-known}
+use Rattle.medians.specs.Guesses.{knownAt, rightGuess}
+use Rattle.medians.proofs.guesses.Place.{IsKnown, known-is, guess-known}
 use Rattle.medians.specs.declared.search.Search.{Search}
-use Rattle.medians.specs.Search.{Inside, taken, foundAfter}
+use Rattle.medians.specs.Search.{Inside, taken, gatheredAfter}
 use Rattle.medians.specs.Swept.{Gives, IsMedian, GivesRow, Swept}
 use Rattle.medians.proofs.search.Sweeping.{swept-none}
 use Rattle.medians.proofs.search.Taking.{swept-taken}
@@ -61,13 +61,13 @@ module _ {states : Bytes} {s : Search} {t : Triplet} (inside : Inside states s t
     cost-here : {x : Bytes} {cost : ℕ} → Gives ws states (s .made) t x cost → cost ≡ costOf ws states t
     cost-here = gives-cost weighed (inside .lie) (inside .u-made) (inside .v-made) (inside .w-made)
 
-    module _ (found row : Bytes) where
+    module _ (gathered row : Bytes) where
       -- What is asked for, and what may be given.
       abbrev Considered : Bytes → Search → Type 0
-      Considered found′ s′ = Swept (GivesRow ws states (s .made) t row) (Gives ws states (s .made) t) found s found′ s′
+      Considered found′ s′ = Swept (GivesRow ws states (s .made) t row) (Gives ws states (s .made) t) gathered s found′ s′
 
-      -- A known row that is given was not made, so it was found.
-      known-dealt : IsKnown states (s .made) found (s .count) row → Considered found s
+      -- A known row that is given was not made, so it was gathered.
+      known-dealt : IsKnown states (s .made) gathered (s .count) row → Considered gathered s
       known-dealt known =
           swept-none
           (λ x cost g.
@@ -75,25 +75,25 @@ module _ {states : Bytes} {s : Search} {t : Triplet} (inside : Inside states s t
           (inside .room)
 
       -- The guess is right.
-      pub considered-guess : {r : Bool} (guesses : List ℕ) → r ≡ rightGuess states (s .made) found (s .count) guesses row → r ≡ true → Considered found s
-      considered-guess guesses is e = known-dealt (guess-known states (s .made) found (s .count) row guesses (sym is ∙ e))
+      pub considered-guess : {r : Bool} (guesses : List ℕ) → r ≡ rightGuess states (s .made) gathered (s .count) guesses row → r ≡ true → Considered gathered s
+      considered-guess guesses is e = known-dealt (guess-known states (s .made) gathered (s .count) row guesses (sym is ∙ e))
 
       -- The triplet's cost does not matter.
-      pub considered-dear : {cost : ℕ} → cost ≡ costOf ws states t → s .below ≤ cost → Considered found s
+      pub considered-dear : {cost : ℕ} → cost ≡ costOf ws states t → s .below ≤ cost → Considered gathered s
       considered-dear is dear = swept-none (λ x cost g. inl (omega (arith, cost-here (g .1)))) (inside .room)
 
-      module _ {r : Bool} (is : r ≡ ltb (placeOf states (s .made) found (s .count) row) (s .made + s .count)) where
+      module _ {r : Bool} (is : r ≡ ltb (knownAt states (s .made) gathered (s .count) row) (s .made + s .count)) where
         -- The row is known.
-        pub considered-known : r ≡ true → Considered found s
-        considered-known e = known-dealt (known-is states (s .made) found (s .count) row .0 (sym is ∙ e))
+        pub considered-known : r ≡ true → Considered gathered s
+        considered-known e = known-dealt (known-is states (s .made) gathered (s .count) row .0 (sym is ∙ e))
 
         -- Any other is taken.
-        pub considered-taken : r ≡ false → {cost : ℕ} → cost ≡ costOf ws states t → cost < s .below → IsMedian states t row → length found ≡ 8192 →
-            {found′ : Bytes} {s′ : Search} → (s′ ≡ taken s cost) × (found′ ≡ foundAfter found s row) → Considered found′ s′
+        pub considered-taken : r ≡ false → {cost : ℕ} → cost ≡ costOf ws states t → cost < s .below → IsMedian states t row → length gathered ≡ 8192 →
+            {found′ : Bytes} {s′ : Search} → (s′ ≡ taken s cost) × (found′ ≡ gatheredAfter gathered s row) → Considered found′ s′
         considered-taken e {cost} cost-is matters m size took =
-            let new : IsKnown states (s .made) found (s .count) row → ⊥ =
-            λ known. false≢true (sym e ∙ is ∙ known-is states (s .made) found (s .count) row .1 known) in
-            rw (took .0, took .1) (swept-taken (GivesRow ws states (s .made) t row) (Gives ws states (s .made) t) found s row cost
+            let new : IsKnown states (s .made) gathered (s .count) row → ⊥ =
+            λ known. false≢true (sym e ∙ is ∙ known-is states (s .made) gathered (s .count) row .1 known) in
+            rw (took .0, took .1) (swept-taken (GivesRow ws states (s .made) t row) (Gives ws states (s .made) t) gathered s row cost
             (λ x c g. (g .0, cost-here (g .1) ∙ sym cost-is))
             (record {
               median = m;

@@ -22,8 +22,8 @@ lowered-both given s₀ s₁ s₂ a (inr b) = inr b
 
 module _ {given : Rows} where
   -- Nothing is done.
-  pub gathered-none : (found : Bytes) (s : Search) → Gathered given found s found s
-  gathered-none found s = record {
+  pub gathered-none : (gathered : Bytes) (s : Search) → Gathered given gathered s gathered s
+  gathered-none gathered s = record {
     no-fewer = omega arith;
     older = λ k h. refl;
     newer = λ k l h. absurd (omega arith);
@@ -33,9 +33,9 @@ module _ {given : Rows} where
   }
 
   -- Where everything asked for is dealt with already, nothing need be done.
-  pub swept-none : {asked : Rows} {found : Bytes} {s : Search} → ((x : Bytes) (cost : ℕ) → asked x cost → Dealt found s x cost) →
-      s .made + s .count ≤ 128 → Swept asked given found s found s
-  swept-none {found} {s} dealt room = record {
+  pub swept-none : {asked : Rows} {gathered : Bytes} {s : Search} → ((x : Bytes) (cost : ℕ) → asked x cost → Dealt gathered s x cost) →
+      s .made + s .count ≤ 128 → Swept asked given gathered s gathered s
+  swept-none {gathered} {s} dealt room = record {
     size = refl;
     rest-stays = λ p h. refl;
     made-stays = refl;
@@ -46,7 +46,7 @@ module _ {given : Rows} where
     keeps = λ x cost d. d;
     count-stays = λ e. refl;
     lowers = λ e. inl refl;
-    gathers = λ e. gathered-none found s;
+    gathers = λ e. gathered-none gathered s;
   }
 
   module _ {f₀ f₁ f₂ : Bytes} {s₀ s₁ s₂ : Search} (made-stays : s₂ .made ≡ s₁ .made) (lower : s₁ .below ≤ s₀ .below)
@@ -100,8 +100,8 @@ module _ {given : Rows} where
         by-first e f true g = crowd-first (a .crowd e g)
         by-first e f false g = crowd-second (b .crowd g f)
 
-  -- No row found is lost.
-  no-fewer : {A : Rows} {found found′ : Bytes} {s s′ : Search} → Swept A given found s found′ s′ → s .count ≤ s′ .count
+  -- No row gathered is lost.
+  no-fewer : {A : Rows} {gathered found′ : Bytes} {s s′ : Search} → Swept A given gathered s found′ s′ → s .count ≤ s′ .count
   no-fewer {s} {s′} a = by-aim (s .gathering) refl
     where
       by-aim : (gathering : Bool) → s .gathering ≡ gathering → s .count ≤ s′ .count
@@ -132,7 +132,7 @@ module _ {given : Rows} where
 
 -- Fewer rows asked for, and more that may be given.
 module _ {G G′ : Rows} (more : (x : Bytes) (cost : ℕ) → G x cost → G′ x cost) where
-  crowd-as : {bound : ℕ} {found : Bytes} {s : Search} → Crowd G bound found s → Crowd G′ bound found s
+  crowd-as : {bound : ℕ} {gathered : Bytes} {s : Search} → Crowd G bound gathered s → Crowd G′ bound gathered s
   crowd-as c = record {
     closed = c .closed;
     all-used = c .all-used;
@@ -143,7 +143,7 @@ module _ {G G′ : Rows} (more : (x : Bytes) (cost : ℕ) → G x cost → G′ 
     another = c .another;
   }
 
-  gathered-as : {found found′ : Bytes} {s s′ : Search} → Gathered G found s found′ s′ → Gathered G′ found s found′ s′
+  gathered-as : {gathered found′ : Bytes} {s s′ : Search} → Gathered G gathered s found′ s′ → Gathered G′ gathered s found′ s′
   gathered-as {found′} a = record {
     no-fewer = a .no-fewer;
     older = a .older;
@@ -153,8 +153,8 @@ module _ {G G′ : Rows} (more : (x : Bytes) (cost : ℕ) → G x cost → G′ 
     crowd = λ e f. crowd-as (a .crowd e f);
   }
 
-pub swept-as : {A A′ G G′ : Rows} {found found′ : Bytes} {s s′ : Search} → ((x : Bytes) (cost : ℕ) → A′ x cost → A x cost) →
-    ((x : Bytes) (cost : ℕ) → G x cost → G′ x cost) → Swept A G found s found′ s′ → Swept A′ G′ found s found′ s′
+pub swept-as : {A A′ G G′ : Rows} {gathered found′ : Bytes} {s s′ : Search} → ((x : Bytes) (cost : ℕ) → A′ x cost → A x cost) →
+    ((x : Bytes) (cost : ℕ) → G x cost → G′ x cost) → Swept A G gathered s found′ s′ → Swept A′ G′ gathered s found′ s′
 swept-as {s′} fewer more a = record {
   size = a .size;
   rest-stays = a .rest-stays;
@@ -170,6 +170,6 @@ swept-as {s′} fewer more a = record {
 }
 
 -- What is asked for and given at a number of rows made, at the same number said otherwise.
-pub swept-at : (A G : ℕ → Rows) {m m′ : ℕ} {found found′ : Bytes} {s s′ : Search} → m ≡ m′ → Swept (A m) (G m) found s found′ s′ →
-    Swept (A m′) (G m′) found s found′ s′
+pub swept-at : (A G : ℕ → Rows) {m m′ : ℕ} {gathered found′ : Bytes} {s s′ : Search} → m ≡ m′ → Swept (A m) (G m) gathered s found′ s′ →
+    Swept (A m′) (G m′) gathered s found′ s′
 swept-at A G e a = rw e at a

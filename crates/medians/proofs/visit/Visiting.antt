@@ -50,9 +50,9 @@ module _ (states : Bytes) (t : Triplet) {rows : List Bytes} (are : rows ≡ medi
     Given made = Gives ws states made t
 
     -- Where the first two are alike, the first is all.
-    pub visited-alike : {s s′ : Search} {found found′ : Bytes} → Inside states s t →
+    pub visited-alike : {s s′ : Search} {gathered found′ : Bytes} → Inside states s t →
         {r : Bool} → r ≡ sameRow (getD rows 0 []) (getD rows 1 []) → r ≡ true →
-        Swept (Asked 0 (s .made)) (Given (s .made)) found s found′ s′ → Swept (Given (s .made)) (Given (s .made)) found s found′ s′
+        Swept (Asked 0 (s .made)) (Given (s .made)) gathered s found′ s′ → Swept (Given (s .made)) (Given (s .made)) gathered s found′ s′
     visited-alike inside is e =
         let same = same-row (getD rows 0 []) (getD rows 1 []) .0 (sym is ∙ e) in
         let u = wide inside (t .u) (inside .u-made) in

@@ -17,9 +17,6 @@ abbrev μ-loop : tie.MeasureT-loop
 loop-holds : tie.Need-loop-holds Inv-loop μ-loop
 loop-holds c = (none-spelt _ _ _, λ h. absurd (omega arith))
 
-sub-k : tie.Need-sub-k Inv-loop μ-loop
-sub-k c = omega arith
-
 add-byte : tie.Need-add-byte Inv-loop μ-loop
 add-byte c = omega (arith, c .before .loop .inv .0 .passed)
 
@@ -41,9 +38,6 @@ add-word c =
     let i = l .before .args .i in
     omega (arith, one-fits _ _ _ _ _ _ (omega arith) (l .loop .inv .0) refl (λ x. omega (arith, c .shared-slice-known .given (i + x))))
 
-loop-less : tie.Need-loop-less Inv-loop μ-loop
-loop-less c = omega arith
-
 loop-again : tie.Need-loop-again Inv-loop μ-loop
 loop-again c = (one-spelt _ _ _ _ _ _ (omega arith) (c .before .before .loop .inv .0) refl, λ h p. omega (arith, c .shared-slice-known .given p))
 
@@ -59,12 +53,12 @@ eight-at-spec =
     Inv-loop
     μ-loop
     loop-holds
-    sub-k
+    (λ c. omega arith)
     add-byte
     shared-slice-read-byte
     cast-byte
     mul-word
     add-word
-    loop-less
+    (λ c. omega arith)
     loop-again
     returns)

@@ -5,17 +5,8 @@ use native.Mathlib.Omega.{arith}
 use Rattle.memory.proofs.word_at.Statement.{statement}
 use Rattle.memory.proofs.word_at.Tie as tie
 
-shared-slice-read-result : tie.Need-shared-slice-read-result
-shared-slice-read-result c = omega arith
-
 cast-result : tie.Need-cast-result
 cast-result c = omega (arith, c .shared-slice-known .given (c .before .args .i))
-
-add-result : tie.Need-add-result
-add-result c = omega arith
-
-shared-slice-read-result-2 : tie.Need-shared-slice-read-result-2
-shared-slice-read-result-2 c = omega arith
 
 cast-result-2 : tie.Need-cast-result-2
 cast-result-2 c = omega (arith, c .shared-slice-known2 .given (c .before .before .args .i + 1))
@@ -37,10 +28,10 @@ pub word-at-spec : {M : Type 1} → statement M
 word-at-spec =
     tie.close
     (tie.spec
-    shared-slice-read-result
+    (λ c. omega arith)
     cast-result
-    add-result
-    shared-slice-read-result-2
+    (λ c. omega arith)
+    (λ c. omega arith)
     cast-result-2
     mul-result
     add-result-2

@@ -39,15 +39,15 @@ use Rattle.memory.proofs.clear_words.Met as words-thm
 use Rattle.purge.specs.Network.{linksIn}
 use Rattle.result.specs.Order.{noLink}
 use Rattle.result.specs.Table.{tableBytes}
-use Rattle.result.proofs.table.list as list′
-use Rattle.result.proofs.table.list.Symbol as list-def
-use Rattle.result.proofs.table.list.Met as list-thm
-use Rattle.result.proofs.table.put as put′
-use Rattle.result.proofs.table.put.Symbol as put-def
-use Rattle.result.proofs.table.put.Met as put-thm
-use Rattle.result.proofs.table.clear as clear′
-use Rattle.result.proofs.table.clear.Symbol as clear-def
-use Rattle.result.proofs.table.clear.Met as clear-thm
+use Rattle.result.proofs.table.list_links as list′
+use Rattle.result.proofs.table.list_links.Symbol as list-def
+use Rattle.result.proofs.table.list_links.Met as list-thm
+use Rattle.result.proofs.table.put_links as put′
+use Rattle.result.proofs.table.put_links.Symbol as put-def
+use Rattle.result.proofs.table.put_links.Met as put-thm
+use Rattle.result.proofs.table.clear_links as clear′
+use Rattle.result.proofs.table.clear_links.Symbol as clear-def
+use Rattle.result.proofs.table.clear_links.Met as clear-thm
 use Rattle.network.specs.declared.draw.Sketch.{Sketch}
 use Rattle.network.proofs.draw.Sketch as S
 use Rattle.network.proofs.draw.Sketch.Laws as S′
@@ -245,9 +245,9 @@ call-spec 𝓤 H 𝓜 𝓖 𝓡 =
     meets 𝓤 H 𝓜 𝓖 𝓡 call′.ended params (call′.clauses 𝓤 H (𝓖 .A) (𝓜 .mem) (𝓡 .run)) code.env #network·call code.function (code.unfolded 𝓤 H 𝓜 𝓡)
     (λ κs qs bounds a g are. drop ! $ walk 𝓤 H (𝓖 .A) (givenOf 𝓤 H 𝓜 𝓖) (𝓜 .mem) (𝓡 .run) (tablesOf 𝓤 H 𝓜 (tables 𝓤 H 𝓜 𝓡 code.env)) (record {
       answer = cited 𝓤 H _ 𝓜 𝓡 code.env answer-def.name answer-def.routine code.calls-network·sketch (answer-thm.met 𝓤 H 𝓜 𝓖 𝓡);
-      list = cited 𝓤 H _ 𝓜 𝓡 code.env list-def.name list-def.routine code.calls-result·table·list (list-thm.met 𝓤 H 𝓜 𝓖 𝓡);
-      put = cited 𝓤 H _ 𝓜 𝓡 code.env put-def.name put-def.routine code.calls-result·table·put (put-thm.met 𝓤 H 𝓜 𝓖 𝓡);
-      clear = cited 𝓤 H _ 𝓜 𝓡 code.env clear-def.name clear-def.routine code.calls-result·table·clear (clear-thm.met 𝓤 H 𝓜 𝓖 𝓡);
+      list = cited 𝓤 H _ 𝓜 𝓡 code.env list-def.name list-def.routine code.calls-result·table·list-links (list-thm.met 𝓤 H 𝓜 𝓖 𝓡);
+      put = cited 𝓤 H _ 𝓜 𝓡 code.env put-def.name put-def.routine code.calls-result·table·put-links (put-thm.met 𝓤 H 𝓜 𝓖 𝓡);
+      clear = cited 𝓤 H _ 𝓜 𝓡 code.env clear-def.name clear-def.routine code.calls-result·table·clear-links (clear-thm.met 𝓤 H 𝓜 𝓖 𝓡);
       words = cited 𝓤 H _ 𝓜 𝓡 code.env words-def.name words-def.routine code.calls-memory·clear-words (words-thm.met 𝓤 H 𝓜 𝓖 𝓡);
     })
     (record { lft = κs .0; share = qs .0; ref = a .0; fits = are .0 .0 .1 .0 })

@@ -15,7 +15,7 @@ use Rattle.rules.specs.declared.Answer.the-variants.{Done}
 use Rattle.types.specs.State.{nodesIn}
 use Rattle.purge.specs.declared.state.Held.{Held}
 use Rattle.purge.specs.Network.{linksIn, networkIn}
-use Rattle.result.specs.Written.{Written}
+use Rattle.result.specs.FrontWritten.{FrontWritten}
 use Rattle.result.specs.declared.Front.{Front}
 use Rattle.result.proofs.Parts.{block-size}
 use Rattle.run.specs.declared.start.Ended.{Ended}
@@ -23,7 +23,7 @@ use Rattle.run.specs.Ran.{Ran}
 use Rattle.run.proofs.Once.{settles}
 use Rattle.network.specs.Drawn.{Sketched, unsketched}
 use Rattle.network.proofs.draw.Verdicts.{ran-refused, ran-found, wrote-nothing, wrote-network}
-use Rattle.network.proofs.draw.Ready.{ran-done, told, short}
+use Rattle.network.proofs.draw.Writable.{ran-done, told, short}
 
 -- The types and the links of the network in memory.
 module _ (m : ℕ) (states : Bytes) (area : List ℕ) (held : Held) where
@@ -36,7 +36,7 @@ module _ (m : ℕ) (states : Bytes) (area : List ℕ) (held : Held) where
   links-told = refl
 
   -- So many bytes are used by its block.
-  used-is : {out out′ : Bytes} {f : Front} → Written m states area held out out′ f → f .at + 6 * f .links ≡ length (block m (networkIn m states area held))
+  used-is : {out out′ : Bytes} {f : Front} → FrontWritten m states area held out out′ f → f .at + 6 * f .links ≡ length (block m (networkIn m states area held))
   used-is w = ap₂ (λ a l. a + 6 * l) (w .at-is) (w .links-are ∙ ap length links-told) ∙ sym (block-size m (networkIn m states area held))
 
 module _ {job states : Bytes} {area : List ℕ} {n cells : ℕ} {r : Ended} (pass : number (checked job) ≡ 0) (ran : Ran job n cells states area r) where
@@ -46,9 +46,9 @@ module _ {job states : Bytes} {area : List ℕ} {n cells : ℕ} {r : Ended} (pas
       rw (ran .answered) (wrote-nothing lent job result area _ (ran-refused lent job areas pass (rw (ran .answered) at n)))
 
   -- The run leaves a network, which is written up to its links.
-  module _ {result result′ : Bytes} {f : Front} {m : ℕ} (done : number (r .answer) ≡ 0) (wide : m ≡ width job) (w : Written m states area (r .held) result result′ f) where
-    wrote : Written (width job) states area (r .held) result result′ f
-    wrote = subst (λ k. Written k states area (r .held) result result′ f) wide w
+  module _ {result result′ : Bytes} {f : Front} {m : ℕ} (done : number (r .answer) ≡ 0) (wide : m ≡ width job) (w : FrontWritten m states area (r .held) result result′ f) where
+    wrote : FrontWritten (width job) states area (r .held) result result′ f
+    wrote = subst (λ k. FrontWritten k states area (r .held) result result′ f) wide w
 
     pub used-short : f .at + 6 * f .links ≤ 57680
     used-short = rw (used-is (width job) states area (r .held) wrote) (short pass ran done)

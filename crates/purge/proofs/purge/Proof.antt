@@ -17,9 +17,6 @@ fewer : (c : tie.After-purge-once Inv-loop μ-loop) →
     let l = c .before .before .before .before .before .before .loop in l .stay .count < l .now .state .types
 fewer c = omega (arith, c .before .before .before .if1 .taken)
 
-survey-requires : tie.Need-survey-requires Inv-loop μ-loop
-survey-requires c κs = omega arith
-
 loop-holds : tie.Need-loop-holds Inv-loop μ-loop
 loop-holds c =
     let s = c .before .before in
@@ -79,7 +76,7 @@ purge-spec =
     (tie.spec
     Inv-loop
     μ-loop
-    survey-requires
+    (λ c κs. omega arith)
     loop-holds
     purge-once-requires
     survey-requires-2

@@ -15,9 +15,9 @@ use Rattle.rules.specs.Call.{padded}
 use Rattle.rules.proofs.Block.{Stands, stands-in, stands-rear, stands-part}
 use Rattle.memory.specs.Placed.{placed}
 use Rattle.memory.proofs.Placed.{stands-placed, placed-over, length-placed, placed-padded}
-use Rattle.types.specs.State.{stored, storedAt, laid}
+use Rattle.types.specs.State.{stored, storedAt, laid, rowsFrom}
 use Rattle.types.proofs.State.{OfWidth, length-laid, laid-both, laid-gather, laid-at}
-use Rattle.purge.specs.Left.{rowsFrom, isKept, parted}
+use Rattle.purge.specs.Left.{isKept, parted}
 use Rattle.purge.proofs.retire.Parted.{parted-size}
 
 -- Of the first t rows those that a test chooses. The rows that stay, the rows retired before, and the rows that go.

@@ -7,10 +7,9 @@ use lib.ListN.{length, getD, take, drop, set, length-append, length-drop}
 use lib.Seq.{length-take-le, getD-drop}
 use Rattle.rules.specs.Job.{Bytes}
 use Rattle.rules.proofs.Block.{Stands, stands-in, stands-front, stands-rear, stands-part}
-use Rattle.types.specs.State.{storedAt}
+use Rattle.types.specs.State.{storedAt, rowsFrom}
 use Rattle.memory.specs.Placed.{placed}
 use Rattle.memory.proofs.Placed.{placed-none, stands-placed, getD-placed-behind, placed-over, placed-twice, taken-more, length-placed}
-use Rattle.purge.specs.Left.{rowsFrom}
 
 -- The bytes from row i on, up to byte c, have moved down by a row.
 abbrev pub moved : Bytes → ℕ → ℕ → Bytes

@@ -11,11 +11,11 @@ use Rattle.graph.specs.Below.{gather, given}
 use Rattle.graph.proofs.Below.{gather-more}
 use Rattle.rules.specs.Job.{Bytes}
 use Rattle.rules.proofs.Block.{length-parts}
-use Rattle.types.specs.State.{storedAt}
+use Rattle.types.specs.State.{storedAt, rowsFrom}
 use Rattle.types.proofs.State.{length-storedAt}
 use Rattle.memory.specs.Placed.{placed}
 use Rattle.memory.proofs.Placed.{length-placed}
-use Rattle.purge.specs.Left.{Chosen, rowsFrom, isKept, parted}
+use Rattle.purge.specs.Left.{Chosen, isKept, parted}
 use Rattle.purge.proofs.retire.Kept.{Upto, Next, upto-none, next-kept, next-upto, other-upto, other-gone}
 use Rattle.purge.proofs.retire.Moved.{row-to-end}
 

@@ -10,7 +10,7 @@ use borrow.Author.Tests.{ltb-true, lt-ltb}
 use lib.Dec.{ltb}
 use lib.ListN.{length, getD, set}
 use Rattle.graph.proofs.Below.{is-false}
-use Rattle.distances.specs.Area.{cellAt, Written, Line}
+use Rattle.distances.specs.Area.{cellAt, CellsWritten, Line}
 use Rattle.distances.proofs.Area.{Asked, Narrow, cell-kept, line-more, written-as, written-both, written-more}
 use Rattle.purge.specs.Left.{Chosen, squeezed}
 use Rattle.purge.proofs.retire.Kept.{at-least}
@@ -37,7 +37,7 @@ squeezed-none kept count area i j h =
 
 module _ {kept : List ℕ} {count t : ℕ} (chosen : Chosen kept count t) (narrow : t ≤ 128) {before area : List ℕ} where
   -- It comes from what stood there before, where its places are not yet written.
-  from-before : {asked : Asked} {f : ℕ → ℕ → ℕ} → Written asked f before area → Narrow asked → (i j : ℕ) →
+  from-before : {asked : Asked} {f : ℕ → ℕ → ℕ} → CellsWritten asked f before area → Narrow asked → (i j : ℕ) →
       (i < j → j < count → asked (getD kept i 0) (getD kept j 0) → ⊥) → squeezed kept count area i j ≡ squeezed kept count before i j
   from-before w n i j free = elim (decLt i j) [
     | yes h ↦ elim (decLt j count) [
@@ -53,23 +53,23 @@ module _ {kept : List ℕ} {count t : ℕ} (chosen : Chosen kept count t) (narro
       none h = squeezed-none kept count area i j h ∙ sym (squeezed-none kept count before i j h)
 
   -- One cell more of a line: a distance, or 0.
-  module _ {a b : ℕ} (w : Written (Line a b) (squeezed kept count before) before area) (h : a < t) (l : b < t) (room : 16384 ≤ length before) where
-    stored : (v : ℕ) → v ≡ squeezed kept count area a b → Written (Line a (b + 1)) (squeezed kept count before) before (set area (128 * a + b) v)
+  module _ {a b : ℕ} (w : CellsWritten (Line a b) (squeezed kept count before) before area) (h : a < t) (l : b < t) (room : 16384 ≤ length before) where
+    stored : (v : ℕ) → v ≡ squeezed kept count area a b → CellsWritten (Line a (b + 1)) (squeezed kept count before) before (set area (128 * a + b) v)
     stored v e =
         let n : Narrow (Line a b) = λ i j t. omega arith in
         written-more w (λ i j t. omega arith) a b v (line-more a b) (omega arith)
         (e ∙ from-before w n a b (λ g k t. omega (arith, at-least chosen b k, t .1)))
 
     pub distance-stored : a < b → b < count →
-        Written (Line a (b + 1)) (squeezed kept count before) before (set area (128 * a + b) (cellAt area (getD kept a 0) (getD kept b 0)))
+        CellsWritten (Line a (b + 1)) (squeezed kept count before) before (set area (128 * a + b) (cellAt area (getD kept a 0) (getD kept b 0)))
     distance-stored g k = stored _ (sym (squeezed-stays kept count area a b g k))
 
-    pub zero-stored : (a < b → b < count → ⊥) → Written (Line a (b + 1)) (squeezed kept count before) before (set area (128 * a + b) 0)
+    pub zero-stored : (a < b → b < count → ⊥) → CellsWritten (Line a (b + 1)) (squeezed kept count before) before (set area (128 * a + b) 0)
     zero-stored none = stored 0 (sym (squeezed-none kept count area a b none))
 
   -- One line more.
-  pub line-squeezed : {a : ℕ} {after : List ℕ} → Written (Lines a t) (squeezed kept count before) before area → a < t →
-      Written (Line a t) (squeezed kept count area) area after → Written (Lines (a + 1) t) (squeezed kept count before) before after
+  pub line-squeezed : {a : ℕ} {after : List ℕ} → CellsWritten (Lines a t) (squeezed kept count before) before area → a < t →
+      CellsWritten (Line a t) (squeezed kept count area) area after → CellsWritten (Lines (a + 1) t) (squeezed kept count before) before after
   line-squeezed {a} w h x =
       let n : Narrow (Lines a t) = λ i j t. omega arith in
       let y = written-as x (λ i j. (λ t. t, λ t. t))

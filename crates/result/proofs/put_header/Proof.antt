@@ -11,12 +11,6 @@ use Rattle.result.proofs.put_header.Tie as tie
 short : (c : tie.Start) → linksOffset (c .args .t) (c .args .s) (c .args .m) ≤ 8976
 short c = links-short _ (c .pre .1) (c .pre .0)
 
-mul-rows : tie.Need-mul-rows
-mul-rows c = omega arith
-
-add-rows : tie.Need-add-rows
-add-rows c = omega arith
-
 sub-links : tie.Need-sub-links
 sub-links c = c .before .pre .2
 
@@ -26,22 +20,10 @@ mul-links c = omega (arith, short (c .before))
 add-links : tie.Need-add-links
 add-links c = omega (arith, short (c .before))
 
-put-three-requires : tie.Need-put-three-requires
-put-three-requires c κs = omega arith
-
-put-word-requires : tie.Need-put-word-requires
-put-word-requires c κs = omega arith
-
-put-word-requires-2 : tie.Need-put-word-requires-2
-put-word-requires-2 c κs = omega arith
-
 put-three-requires-2 : tie.Need-put-three-requires-2
 put-three-requires-2 c κs =
     let start = c .before .before .before .before .before .before .before .before .before .before .before .before .before .before in
     omega (arith, short start)
-
-same-length : tie.Need-same-length
-same-length c = omega arith
 
 returns : tie.Need-returns
 unfolding words
@@ -59,14 +41,14 @@ pub put-header-spec : {M : Type 1} → statement M
 put-header-spec =
     tie.close
     (tie.spec
-    mul-rows
-    add-rows
+    (λ c. omega arith)
+    (λ c. omega arith)
     sub-links
     mul-links
     add-links
-    put-three-requires
-    put-word-requires
-    put-word-requires-2
+    (λ c κs. omega arith)
+    (λ c κs. omega arith)
+    (λ c κs. omega arith)
     put-three-requires-2
-    same-length
+    (λ c. omega arith)
     returns)

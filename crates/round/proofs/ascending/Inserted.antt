@@ -12,11 +12,11 @@ use Rattle.graph.proofs.Below.{In, in-at, first-is, first-le, first-before, fir
 use Rattle.rules.specs.Job.{Bytes, Row}
 use Rattle.rules.specs.Types.{rowAt}
 use Rattle.rules.proofs.Block.{Stands, stands-in, stands-rear, stands-part}
-use Rattle.types.specs.State.{stored, storedAt, laid}
+use Rattle.types.specs.State.{stored, storedAt, laid, rowsFrom}
 use Rattle.types.proofs.State.{length-storedAt, storedAt-is, storedAt-state, OfWidth, laid-both, laid-none, length-laid, laid-at}
 use Rattle.memory.specs.Placed.{placed}
 use Rattle.memory.proofs.Placed.{placed-none, stands-placed, take-placed, drop-placed, getD-placed-before, placed-over, placed-twice, length-placed}
-use Rattle.round.specs.Sorted.{before, put, sorted, placeIn, rowsFrom, withRow}
+use Rattle.round.specs.Sorted.{before, put, sorted, rowPlace, withRow}
 use Rattle.round.proofs.ascending.Sorted.{length-sorted, sorted-wide}
 
 -- The first is within the numbers searched.
@@ -77,7 +77,7 @@ module _ (rows : Bytes) (count : ℕ) where
       written ∙ rw (is, parts, next) (placed-front rows row part (64 * i) (64 * i + 64) (omega arith) (omega arith))
 
 -- The rows from its place on moved up, and the row put there.
-pub moved-with-row : (rows row moved after : Bytes) (count i : ℕ) → length rows ≡ 8192 → length row ≡ 64 → count < 128 → i ≡ placeIn rows count row →
+pub moved-with-row : (rows row moved after : Bytes) (count i : ℕ) → length rows ≡ 8192 → length row ≡ 64 → count < 128 → i ≡ rowPlace rows count row →
     moved ≡ placed rows (64 * i + 64) (rowsFrom rows i count) → after ≡ placed moved (64 * i) row → after ≡ withRow rows count row
 unfolding withRow
 moved-with-row rows row moved after count i size wide small p m e =
@@ -124,7 +124,7 @@ module _ (ys : List Row) (wide : (y : Row) → In y ys → length y ≡ 64) wher
     laid-row : (k : ℕ) → k < length ys → storedAt rows k ≡ rowAt ys k
     laid-row k h = rw (is, laid-at 64 ys (omega arith) of-width b k h) (stored-whole (rowAt ys k) (of-width k h))
 
-    spot-is : (row : Row) → placeIn rows (length ys) row ≡ spot row ys
+    spot-is : (row : Row) → rowPlace rows (length ys) row ≡ spot row ys
     spot-is row =
         let n = length ys in
         let q : ℕ → Bool = λ k. not (before (rowAt ys k) row) in

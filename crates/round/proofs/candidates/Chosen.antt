@@ -62,7 +62,7 @@ same-behind b b′ xs size same =
     getD-drop n b p 0 ∙ same (n + p) (omega arith) ∙ sym (getD-drop n b′ p 0)) in
     rw behind
 
--- So many rows found, and one behind them.
+-- So many rows gathered, and one behind them.
 module _ (found : Bytes) (count : ℕ) (row : Bytes) where
   unfoldable withLast : ℕ → Bytes
   withLast k = cond (ltb k count) (storedAt found k) row
@@ -76,7 +76,7 @@ module _ (found : Bytes) (count : ℕ) (row : Bytes) where
   with-last-row k h = rw (le-ltb k count h)
 
 module _ {ws : List ℕ} {states : Bytes} {area : List ℕ} {n made : ℕ} where
-  -- The first sweep, in which no row is found.
+  -- The first sweep, in which no row is gathered.
   module _ {found₁ : Bytes} {least : Search}
       (first : Swept (Everywhere ws states area n made n) (Candidate ws states area n made) (replicate 8192 0) (forLambda made) found₁ least) where
     none : least .count ≡ 0
@@ -141,7 +141,7 @@ module _ {ws : List ℕ} {states : Bytes} {area : List ℕ} {n made : ℕ} where
           rows-are = rows-are;
         }
 
-        -- The rows found and the one that found no room are one more than there is room for.
+        -- The rows gathered and the one that found no room are one more than there is room for.
         crowded : all .full ≡ true → TooMany ws states area n made e
         crowded full =
             let c = gathered .crowd refl full in

@@ -22,31 +22,10 @@ not-many c = few-told _ (c .before .before .before .before .before .begin .ensur
 header-of-requires : tie.Need-header-of-requires
 header-of-requires c κs = passed-is _ (c .before .before .before .pre .0) .head
 
-weights-requires : tie.Need-weights-requires
-weights-requires c κs = search needs
-
-slice-aggregate-begin : tie.Need-slice-aggregate-begin
-slice-aggregate-begin c = search needs
-
-begin-requires : tie.Need-begin-requires
-begin-requires c κs = search needs
-
-enum-told : tie.Need-enum-told
-enum-told c = search needs
-
-same-length : tie.Need-same-length
-same-length c = search needs
-
-same-length-2 : tie.Need-same-length-2
-same-length-2 c = search needs
-
 returns : tie.Need-returns
 returns c =
     let begun = c .before .before .before .before .before .before .begin .ensures in
     ran-types begun (many-told _ (begun .answered) (c .enum-told .given .1))
-
-slice-aggregate-phases : tie.Need-slice-aggregate-phases
-slice-aggregate-phases c = search needs
 
 phases-requires : tie.Need-phases-requires
 phases-requires c κs =
@@ -55,12 +34,6 @@ phases-requires c κs =
     let p = entry k .pre in
     let header = k .before .before .before .before .before .header-of .ensures in
     safe-first (k .begin .ensures) (p .0) (not-many m) (k .before .before .before .before .weights .ensures) (omega (arith, header .epsilon-is, header .epsilon-fits)) (p .1) (p .2)
-
-same-length-3 : tie.Need-same-length-3
-same-length-3 c = search needs
-
-same-length-4 : tie.Need-same-length-4
-same-length-4 c = search needs
 
 returns-2 : tie.Need-returns-2
 returns-2 c =
@@ -73,15 +46,15 @@ run-spec =
     tie.close
     (tie.spec
     header-of-requires
-    weights-requires
-    slice-aggregate-begin
-    begin-requires
-    enum-told
-    same-length
-    same-length-2
+    (λ c κs. search needs)
+    (λ c. search needs)
+    (λ c κs. search needs)
+    (λ c. search needs)
+    (λ c. search needs)
+    (λ c. search needs)
     returns
-    slice-aggregate-phases
+    (λ c. search needs)
     phases-requires
-    same-length-3
-    same-length-4
+    (λ c. search needs)
+    (λ c. search needs)
     returns-2)

@@ -27,7 +27,7 @@ use Rattle.types.proofs.State.{OfWidth, length-laid, length-stored, stored-stat
 use Rattle.types.specs.Collapse.{entered, Collapsed}
 use Rattle.types.specs.declared.sample.Sample.{Sample}
 use Rattle.types.proofs.sample.Collapsed.{entered-all}
-use Rattle.distances.specs.Area.{Weighed, Written, New, storedApart}
+use Rattle.distances.specs.Area.{Weighed, CellsWritten, New, storedApart}
 use Rattle.distances.proofs.Measured.{behind-zero}
 use Rattle.purge.specs.State.{epsilonOf}
 use Rattle.purge.specs.declared.state.Phase.the-variants.{One}
@@ -98,8 +98,8 @@ module _ (job : Bytes) (ok : number (checked job) ≡ 0) where
 
     -- Their distances are measured into zeros, by the job's weights: the run begins.
     module _ {ws area₀ area : List ℕ} (cells : ℕ) (weigh : ws ≡ padded 64 (weights job)) (zeros : area₀ ≡ replicate cells 0)
-        (filled : Written (New 0 (sample .types)) (storedApart ws states) area₀ area) where
-      measured : Written (New 0 (sample .types)) (storedApart (padded 64 (weights job)) states) (replicate cells 0) area
+        (filled : CellsWritten (New 0 (sample .types)) (storedApart ws states) area₀ area) where
+      measured : CellsWritten (New 0 (sample .types)) (storedApart (padded 64 (weights job)) states) (replicate cells 0) area
       measured = rw (weigh, zeros) at filled
 
       held-first : Holds (width job) (weights job) (start (jobRows job)) states area (begun sample (epsilon job) .held)

@@ -14,14 +14,8 @@ round-requires c κs =
     let s = safe-purged (c .before .before .before .before .before .before .before .before .before .before .before .before .pre) (c .before .before .before .before .before .before .purge .ensures) in
     (s .weighed, s .within, s .few, s .rounds-few, s .kinds-size, s .epsilon-fits, s .states-fit, s .cells-fit)
 
-same-length : tie.Need-same-length
-same-length c = search needs
-
-same-length-2 : tie.Need-same-length-2
-same-length-2 c = search needs
-
 returns : tie.Need-returns
 returns c = turned (c .before .before .before .before .before .before .before .before .before .before .before .before .before .before .before .before .before .pre) (c .before .before .before .before .before .before .before .before .before .before .before .purge .ensures) (c .before .before .before .before .round .ensures)
 
 pub turn-spec : {M : Type 1} → statement M
-turn-spec = tie.close (tie.spec purge-requires round-requires same-length same-length-2 returns)
+turn-spec = tie.close (tie.spec purge-requires round-requires (λ c. search needs) (λ c. search needs) returns)

@@ -6,24 +6,6 @@ use Rattle.service.proofs.Text.{least-text}
 use Rattle.service.proofs.answer_text.Statement.{statement}
 use Rattle.service.proofs.answer_text.Tie as tie
 
-slice-aggregate-answer-job : tie.Need-slice-aggregate-answer-job
-slice-aggregate-answer-job c = search needs
-
-answer-job-requires : tie.Need-answer-job-requires
-answer-job-requires c κs = search needs
-
-slice-aggregate-text : tie.Need-slice-aggregate-text
-slice-aggregate-text c = search needs
-
-text-requires : tie.Need-text-requires
-text-requires c κs = search needs
-
-tell-text-requires : tie.Need-tell-text-requires
-tell-text-requires c κs = search needs
-
-same-length : tie.Need-same-length
-same-length c = search needs
-
 returns : tie.Need-returns
 returns c =
     let printed = c .before .before .before in
@@ -33,10 +15,10 @@ pub answer-text-spec : {M : Type 1} → statement M
 answer-text-spec =
     tie.close
     (tie.spec
-    slice-aggregate-answer-job
-    answer-job-requires
-    slice-aggregate-text
-    text-requires
-    tell-text-requires
-    same-length
+    (λ c. search needs)
+    (λ c κs. search needs)
+    (λ c. search needs)
+    (λ c κs. search needs)
+    (λ c κs. search needs)
+    (λ c. search needs)
     returns)

@@ -67,8 +67,8 @@ typed {𝓤 = 𝓤} {H} {A} W xs v is = array-lawful 𝓤 H A W L.the-row (LS.la
 abbrev both : Val → Val → Val
 both w v = vstruct (vcons w (vcons v vnil))
 
-made : (w v : Val) (o : Owned) → Is Ans.the-row (o .answer) (w ∷ []) → Is Table (o .table) (v ∷ []) → Is Own.the-row o (both w v ∷ [])
-made w v o is is′ =
+conversion : (w v : Val) (o : Owned) → Is Ans.the-row (o .answer) (w ∷ []) → Is Table (o .table) (v ∷ []) → Is Own.the-row o (both w v ∷ [])
+conversion w v o is is′ =
     let tuples = is-same (L.the-field .row) Link (L.the-field .into) (L.the-field .into-one) 8128 (o .table) (v ∷ []) is′ in
     ((w ∷ [], (v ∷ [], tt)), (refl, (is, (tuples, tt))))
 
@@ -172,7 +172,7 @@ module _ {M : Type 1} (𝓤 : URA M) (H : Heap 𝓤) (A : Atoms 𝓤) (W : Given
       -- Owned { answer, table }
       hands : (w v′ : Val) (z : Leaves) → Is Ans.the-row (z .answer) (w ∷ []) → Is Table (z .links′) (v′ ∷ []) → Runs (After z w v′) body.t-11
       hands w v′ z is is′ =
-          let out : Is Own.the-row (handed z) (both w v′ ∷ []) = made w v′ (handed z) is is′ in
+          let out : Is Own.the-row (handed z) (both w v′ ∷ []) = conversion w v′ (handed z) is is′ in
           sets ! (of-opd ! (local ! 10 refl)) (init ! 20 refl (typed W (z .links′) v′ is′ .0)) $
           sets ! (agg ! (whole-arg ! 11 refl (whole-arg ! 20 refl (no-more !))))
           (init ! 4 refl (LS.lawful Own.the-type Own′.the-laws 𝓤 H A W .typed (handed z) _ out .0)) $ returns ! (look ! 4 refl) $

@@ -16,53 +16,8 @@ Inv-loop area wide near₀ inside v from least₀ u₀ near least u =
 abbrev μ-loop : tie.MeasureT-loop
 μ-loop area wide near₀ inside v from least₀ u₀ near least u = wide - u
 
-mul-from : tie.Need-mul-from Inv-loop μ-loop
-mul-from c = omega arith
-
 loop-holds : tie.Need-loop-holds Inv-loop μ-loop
 loop-holds c = (omega arith, filled-none, least-none)
-
-add-lesser : tie.Need-add-lesser Inv-loop μ-loop
-add-lesser c = omega arith
-
-mul-lesser : tie.Need-mul-lesser Inv-loop μ-loop
-mul-lesser c = omega arith
-
-shared-slice-read-lesser : tie.Need-shared-slice-read-lesser Inv-loop μ-loop
-shared-slice-read-lesser c = omega arith
-
-mul-lesser-2 : tie.Need-mul-lesser-2 Inv-loop μ-loop
-mul-lesser-2 c = omega arith
-
-slice-read-lesser : tie.Need-slice-read-lesser Inv-loop μ-loop
-slice-read-lesser c = omega arith
-
-lesser-requires : tie.Need-lesser-requires Inv-loop μ-loop
-lesser-requires c κs = omega arith
-
-mul-near : tie.Need-mul-near Inv-loop μ-loop
-mul-near c = omega arith
-
-slice-write-near : tie.Need-slice-write-near Inv-loop μ-loop
-slice-write-near c = omega arith
-
-mul-longer : tie.Need-mul-longer Inv-loop μ-loop
-mul-longer c = omega arith
-
-shared-slice-read-longer : tie.Need-shared-slice-read-longer Inv-loop μ-loop
-shared-slice-read-longer c = omega arith
-
-longer-requires : tie.Need-longer-requires Inv-loop μ-loop
-longer-requires c κs = omega arith
-
-lesser-requires-2 : tie.Need-lesser-requires-2 Inv-loop μ-loop
-lesser-requires-2 c κs = omega arith
-
-add-u : tie.Need-add-u Inv-loop μ-loop
-add-u c = omega arith
-
-loop-less : tie.Need-loop-less Inv-loop μ-loop
-loop-less c = omega arith
 
 loop-again : tie.Need-loop-again Inv-loop μ-loop
 loop-again c =
@@ -90,22 +45,22 @@ approach-spec =
     (tie.spec
     Inv-loop
     μ-loop
-    mul-from
+    (λ c. omega arith)
     loop-holds
-    add-lesser
-    mul-lesser
-    shared-slice-read-lesser
-    mul-lesser-2
-    slice-read-lesser
-    lesser-requires
-    mul-near
-    slice-write-near
-    mul-longer
-    shared-slice-read-longer
-    longer-requires
-    lesser-requires-2
-    add-u
-    loop-less
+    (λ c. omega arith)
+    (λ c. omega arith)
+    (λ c. omega arith)
+    (λ c. omega arith)
+    (λ c. omega arith)
+    (λ c κs. omega arith)
+    (λ c. omega arith)
+    (λ c. omega arith)
+    (λ c. omega arith)
+    (λ c. omega arith)
+    (λ c κs. omega arith)
+    (λ c κs. omega arith)
+    (λ c. omega arith)
+    (λ c. omega arith)
     loop-again
     same-length
     returns)

@@ -2,7 +2,7 @@
 use mathlib.Core.Path.{_≡_}
 use Prim.Native.Nat.{_-_, _≤_}
 use native.Mathlib.Omega.{arith}
-use Rattle.distances.specs.Area.{Written}
+use Rattle.distances.specs.Area.{CellsWritten}
 use Rattle.distances.proofs.Area.{none-written}
 use Rattle.spans.specs.Tree.{Mirror, opposite}
 use Rattle.spans.proofs.Turns.{line-mirrored}
@@ -10,7 +10,7 @@ use Rattle.spans.proofs.mirror.Statement.{statement}
 use Rattle.spans.proofs.mirror.Tie as tie
 
 abbrev Inv-loop : tie.InvT-loop
-Inv-loop area₀ n j₀ area j = (j ≤ n) × Written (Mirror j) (opposite area₀) area₀ area
+Inv-loop area₀ n j₀ area j = (j ≤ n) × CellsWritten (Mirror j) (opposite area₀) area₀ area
 
 abbrev μ-loop : tie.MeasureT-loop
 μ-loop area₀ n j₀ area j = n - j
@@ -18,23 +18,11 @@ abbrev μ-loop : tie.MeasureT-loop
 loop-holds : tie.Need-loop-holds Inv-loop μ-loop
 loop-holds c = (omega arith, none-written (λ a b t. omega arith))
 
-mirror-line-requires : tie.Need-mirror-line-requires Inv-loop μ-loop
-mirror-line-requires c κs = omega arith
-
-add-j : tie.Need-add-j Inv-loop μ-loop
-add-j c = omega arith
-
-loop-less : tie.Need-loop-less Inv-loop μ-loop
-loop-less c = omega arith
-
 loop-again : tie.Need-loop-again Inv-loop μ-loop
 loop-again c =
     let m = c .before .before in
     let l = m .before .before .before in
     (omega arith, line-mirrored (omega arith) (l .loop .inv .1) (m .mirror-line .ensures))
-
-same-length : tie.Need-same-length Inv-loop μ-loop
-same-length c = omega arith
 
 returns : tie.Need-returns Inv-loop μ-loop
 returns c =
@@ -49,9 +37,9 @@ mirror-spec =
     Inv-loop
     μ-loop
     loop-holds
-    mirror-line-requires
-    add-j
-    loop-less
+    (λ c κs. omega arith)
+    (λ c. omega arith)
+    (λ c. omega arith)
     loop-again
-    same-length
+    (λ c. omega arith)
     returns)

@@ -2,52 +2,22 @@
 use mathlib.Core.Path.{_≡_}
 use Prim.Native.Nat.{_-_, _≤_}
 use native.Mathlib.Omega.{arith}
-use Rattle.distances.specs.Area.{Written}
+use Rattle.distances.specs.Area.{CellsWritten}
 use Rattle.distances.proofs.Area.{none-written, written-more, cell-kept}
 use Rattle.spans.specs.Tree.{opposite}
-use Rattle.spans.specs.Growth.{Part}
+use Rattle.spans.specs.Growth.{LinePart}
 use Rattle.spans.proofs.Turns.{part-more}
 use Rattle.spans.proofs.mirror_part.Statement.{statement}
 use Rattle.spans.proofs.mirror_part.Tie as tie
 
 abbrev Inv-loop : tie.InvT-loop
-Inv-loop area₀ j from to i₀ area i = (from ≤ i) × (i ≤ to) × Written (Part j from i) (opposite area₀) area₀ area
+Inv-loop area₀ j from to i₀ area i = (from ≤ i) × (i ≤ to) × CellsWritten (LinePart j from i) (opposite area₀) area₀ area
 
 abbrev μ-loop : tie.MeasureT-loop
 μ-loop area₀ j from to i₀ area i = to - i
 
 loop-holds : tie.Need-loop-holds Inv-loop μ-loop
 loop-holds c = (omega arith, omega arith, none-written (λ a b t. omega arith))
-
-mul-area : tie.Need-mul-area Inv-loop μ-loop
-mul-area c = omega arith
-
-add-area : tie.Need-add-area Inv-loop μ-loop
-add-area c = omega arith
-
-mul-area-2 : tie.Need-mul-area-2 Inv-loop μ-loop
-mul-area-2 c = omega arith
-
-slice-read-area : tie.Need-slice-read-area Inv-loop μ-loop
-slice-read-area c = omega arith
-
-mul-area-3 : tie.Need-mul-area-3 Inv-loop μ-loop
-mul-area-3 c = omega arith
-
-add-area-2 : tie.Need-add-area-2 Inv-loop μ-loop
-add-area-2 c = omega arith
-
-mul-area-4 : tie.Need-mul-area-4 Inv-loop μ-loop
-mul-area-4 c = omega arith
-
-slice-write-area : tie.Need-slice-write-area Inv-loop μ-loop
-slice-write-area c = omega arith
-
-add-i : tie.Need-add-i Inv-loop μ-loop
-add-i c = omega arith
-
-loop-less : tie.Need-loop-less Inv-loop μ-loop
-loop-less c = omega arith
 
 loop-again : tie.Need-loop-again Inv-loop μ-loop
 loop-again c =
@@ -74,16 +44,16 @@ mirror-part-spec =
     Inv-loop
     μ-loop
     loop-holds
-    mul-area
-    add-area
-    mul-area-2
-    slice-read-area
-    mul-area-3
-    add-area-2
-    mul-area-4
-    slice-write-area
-    add-i
-    loop-less
+    (λ c. omega arith)
+    (λ c. omega arith)
+    (λ c. omega arith)
+    (λ c. omega arith)
+    (λ c. omega arith)
+    (λ c. omega arith)
+    (λ c. omega arith)
+    (λ c. omega arith)
+    (λ c. omega arith)
+    (λ c. omega arith)
     loop-again
     same-length
     returns)

@@ -17,18 +17,6 @@ abbrev μ-loop : tie.MeasureT-loop
 loop-holds : tie.Need-loop-holds Inv-loop μ-loop
 loop-holds c = (omega arith, filled-none)
 
-mul-inside : tie.Need-mul-inside Inv-loop μ-loop
-mul-inside c = omega arith
-
-array-write-inside : tie.Need-array-write-inside Inv-loop μ-loop
-array-write-inside c = omega arith
-
-add-u : tie.Need-add-u Inv-loop μ-loop
-add-u c = omega arith
-
-loop-less : tie.Need-loop-less Inv-loop μ-loop
-loop-less c = omega arith
-
 loop-again : tie.Need-loop-again Inv-loop μ-loop
 loop-again c = (omega arith, filled-more (c .before .loop .inv .1) (omega arith) refl)
 
@@ -46,9 +34,9 @@ none-inside-spec =
     Inv-loop
     μ-loop
     loop-holds
-    mul-inside
-    array-write-inside
-    add-u
-    loop-less
+    (λ c. omega arith)
+    (λ c. omega arith)
+    (λ c. omega arith)
+    (λ c. omega arith)
     loop-again
     returns)

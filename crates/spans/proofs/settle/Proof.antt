@@ -22,29 +22,8 @@ typed : (t : tie.In-loop Inv-loop μ-loop) →
     (i : ℕ) → i < a .n → getD (a .order .now) i 0 < a .n
 typed t = t .before .before .before .before .before .before .pre .3 .types
 
-lanes-requires : tie.Need-lanes-requires Inv-loop μ-loop
-lanes-requires c κs = omega arith
-
 loop-holds : tie.Need-loop-holds Inv-loop μ-loop
 loop-holds c = (omega arith, refl, refl, settling-none (omega arith) (c .before .before .before .before .pre .3))
-
-sub-k : tie.Need-sub-k Inv-loop μ-loop
-sub-k c = omega arith
-
-mul-v : tie.Need-mul-v Inv-loop μ-loop
-mul-v c = omega arith
-
-shared-slice-read-v : tie.Need-shared-slice-read-v Inv-loop μ-loop
-shared-slice-read-v c = omega arith
-
-sub-before : tie.Need-sub-before Inv-loop μ-loop
-sub-before c = omega arith
-
-mul-before : tie.Need-mul-before Inv-loop μ-loop
-mul-before c = omega arith
-
-shared-slice-read-before : tie.Need-shared-slice-read-before Inv-loop μ-loop
-shared-slice-read-before c = omega arith
 
 mul-reach : tie.Need-mul-reach Inv-loop μ-loop
 mul-reach c = let t = c .before .before in omega (arith, typed t (t .before .loop .k - 1) (omega arith))
@@ -52,24 +31,12 @@ mul-reach c = let t = c .before .before in omega (arith, typed t (t .before .loo
 array-write-reach : tie.Need-array-write-reach Inv-loop μ-loop
 array-write-reach c = let t = c .before .before in omega (arith, typed t (t .before .loop .k - 1) (omega arith), t .before .loop .inv .2)
 
-slice-aggregate-settle-line : tie.Need-slice-aggregate-settle-line Inv-loop μ-loop
-slice-aggregate-settle-line c = search needs
-
-mul-settle-line : tie.Need-mul-settle-line Inv-loop μ-loop
-mul-settle-line c = omega arith
-
-shared-slice-read-settle-line : tie.Need-shared-slice-read-settle-line Inv-loop μ-loop
-shared-slice-read-settle-line c = omega arith
-
 settle-line-requires : tie.Need-settle-line-requires Inv-loop μ-loop
 settle-line-requires c κs =
     let t = c .before .before .before .before .before in
     let (h, size, long, s) = t .before .loop .inv in
     let before = typed t (t .before .loop .k - 1 - 1) (omega arith) in
     (omega (arith, t .before .before .lanes .ensures), rw length-set long, omega arith)
-
-loop-less : tie.Need-loop-less Inv-loop μ-loop
-loop-less c = omega arith
 
 loop-again : tie.Need-loop-again Inv-loop μ-loop
 loop-again c =
@@ -101,21 +68,21 @@ settle-spec =
     (tie.spec
     Inv-loop
     μ-loop
-    lanes-requires
+    (λ c κs. omega arith)
     loop-holds
-    sub-k
-    mul-v
-    shared-slice-read-v
-    sub-before
-    mul-before
-    shared-slice-read-before
+    (λ c. omega arith)
+    (λ c. omega arith)
+    (λ c. omega arith)
+    (λ c. omega arith)
+    (λ c. omega arith)
+    (λ c. omega arith)
     mul-reach
     array-write-reach
-    slice-aggregate-settle-line
-    mul-settle-line
-    shared-slice-read-settle-line
+    (λ c. search needs)
+    (λ c. omega arith)
+    (λ c. omega arith)
     settle-line-requires
-    loop-less
+    (λ c. omega arith)
     loop-again
     same-length
     returns)

@@ -5,21 +5,21 @@ use native.Mathlib.Omega.{arith}
 use lib.ListN.{getD}
 use Rattle.triplets.specs.Followers.{Follower}
 use Rattle.medians.specs.Swept.{Swept}
-use Rattle.sweep.specs.Candidate.{Candidate, AtCentre, Kept}
+use Rattle.sweep.specs.Candidate.{Candidate, AtCentre, TablesKept}
 use Rattle.sweep.specs.Floors.{Floored}
 use Rattle.sweep.proofs.Walk.{Walk, walk-first, walk-next, follower-first, follower-next, kept-then, kept-none, still-ready, centre-none, centre-open, centre-more, centre-lowered}
 use Rattle.sweep.proofs.at_centre.Statement.{statement}
 use Rattle.sweep.proofs.at_centre.Tie as tie
 
 abbrev Inv-loop : tie.InvT-loop
-Inv-loop states area weights next words₀ hints found₀ guesses₀ m n c now₀ a₀ words found guesses now a =
+Inv-loop states area weights next mismatches₀ hints gathered₀ guesses₀ m n c now₀ a₀ mismatches gathered guesses now a =
     Walk area n c 0 a
-    × Kept states m (now₀ .search .made) words₀ words guesses
-    × Swept (AtCentre weights states area n (now₀ .search .made) c a) (Candidate weights states area n (now₀ .search .made)) found₀ (now₀ .search) found (now .search)
+    × TablesKept states m (now₀ .search .made) mismatches₀ mismatches guesses
+    × Swept (AtCentre weights states area n (now₀ .search .made) c a) (Candidate weights states area n (now₀ .search .made)) gathered₀ (now₀ .search) gathered (now .search)
     × Floored (AtCentre weights states area n (now₀ .search .made) c a) (now₀ .floor) (now .floor)
 
 abbrev μ-loop : tie.MeasureT-loop
-μ-loop states area weights next words₀ hints found₀ guesses₀ m n c now₀ a₀ words found guesses now a = n - a
+μ-loop states area weights next mismatches₀ hints gathered₀ guesses₀ m n c now₀ a₀ mismatches gathered guesses now a = n - a
 
 -- The function's start, the follower of the next type, and that numbers of types are small.
 abbrev start : tie.At-loop Inv-loop μ-loop → tie.Start Inv-loop μ-loop
@@ -35,15 +35,6 @@ small : (c : tie.In-loop Inv-loop μ-loop) → let s = start (c .before) .args i
 small c =
     let s = start (c .before) in
     (omega (arith, s .pre .1, s .pre .0 .current, s .pre .0 .room), omega (arith, c .loop-test .taken, s .pre .0 .current, s .pre .0 .room))
-
-mul-a : tie.Need-mul-a Inv-loop μ-loop
-mul-a c = omega arith
-
-mul-a-2 : tie.Need-mul-a-2 Inv-loop μ-loop
-mul-a-2 c = omega arith
-
-shared-slice-read-a : tie.Need-shared-slice-read-a Inv-loop μ-loop
-shared-slice-read-a c = omega arith
 
 cast-a : tie.Need-cast-a Inv-loop μ-loop
 cast-a c = let s = c .before .before .before .before .before .before .before .before .before .args in omega (arith, c .shared-slice-known6 .given (129 * s .c))
@@ -105,7 +96,7 @@ loop-again c =
     )
 
 same-length : tie.Need-same-length Inv-loop μ-loop
-same-length c = c .before .loop .inv .1 .words-size
+same-length c = c .before .loop .inv .1 .mismatches-size
 
 same-length-2 : tie.Need-same-length-2 Inv-loop μ-loop
 same-length-2 c = c .before .loop .inv .2 .size
@@ -125,9 +116,9 @@ at-centre-spec =
     (tie.spec
     Inv-loop
     μ-loop
-    mul-a
-    mul-a-2
-    shared-slice-read-a
+    (λ c. omega arith)
+    (λ c. omega arith)
+    (λ c. omega arith)
     cast-a
     loop-holds
     with-first-requires

@@ -4,7 +4,7 @@ use mathlib.Core.Logic.{⊎-elim}
 use Prim.Native.Nat.{_-_, _≤_, _<_}
 use native.Mathlib.Omega.{arith}
 use Rattle.medians.specs.Swept.{Swept}
-use Rattle.sweep.specs.Candidate.{Candidate, Everywhere, Kept}
+use Rattle.sweep.specs.Candidate.{Candidate, Everywhere, TablesKept}
 use Rattle.sweep.specs.Floors.{Floors}
 use Rattle.sweep.proofs.Floors.{floors-one}
 use Rattle.sweep.proofs.Walk.{kept-then, kept-none, still-ready, everywhere-none, everywhere-more, everywhere-passed}
@@ -12,14 +12,14 @@ use Rattle.sweep.proofs.sweep.Statement.{statement}
 use Rattle.sweep.proofs.sweep.Tie as tie
 
 abbrev Inv-loop : tie.InvT-loop
-Inv-loop states area weights next floors₀ words₀ hints found₀ guesses₀ m n now₀ c₀ floors words found guesses now c =
+Inv-loop states area weights next floors₀ mismatches₀ hints gathered₀ guesses₀ m n now₀ c₀ floors mismatches gathered guesses now c =
     (c ≤ n)
-    × Kept states m (now₀ .made) words₀ words guesses
-    × Swept (Everywhere weights states area n (now₀ .made) c) (Candidate weights states area n (now₀ .made)) found₀ now₀ found now
+    × TablesKept states m (now₀ .made) mismatches₀ mismatches guesses
+    × Swept (Everywhere weights states area n (now₀ .made) c) (Candidate weights states area n (now₀ .made)) gathered₀ now₀ gathered now
     × Floors weights states area n (now₀ .made) floors
 
 abbrev μ-loop : tie.MeasureT-loop
-μ-loop states area weights next floors₀ words₀ hints found₀ guesses₀ m n now₀ c₀ floors words found guesses now c = n - c
+μ-loop states area weights next floors₀ mismatches₀ hints gathered₀ guesses₀ m n now₀ c₀ floors mismatches gathered guesses now c = n - c
 
 -- The function's start, and that numbers of types are small.
 abbrev start : tie.At-loop Inv-loop μ-loop → tie.Start Inv-loop μ-loop
@@ -76,7 +76,7 @@ same-length : tie.Need-same-length Inv-loop μ-loop
 same-length c = c .before .loop .inv .3 .size ∙ sym (start (c .before) .pre .1 .size)
 
 same-length-2 : tie.Need-same-length-2 Inv-loop μ-loop
-same-length-2 c = c .before .loop .inv .1 .words-size
+same-length-2 c = c .before .loop .inv .1 .mismatches-size
 
 same-length-3 : tie.Need-same-length-3 Inv-loop μ-loop
 same-length-3 c = c .before .loop .inv .2 .size

@@ -11,22 +11,22 @@ use Rattle.triplets.specs.Triplet.{inOrder}
 use Rattle.triplets.specs.declared.Triplet.{Triplet}
 use Rattle.triplets.proofs.Order.{mark-read}
 use Rattle.sweep.specs.Floors.{Floored}
-use Rattle.sweep.specs.Candidate.{IsTriplet, Candidate, WithFirst, Ready, Kept}
+use Rattle.sweep.specs.Candidate.{IsTriplet, Candidate, WithFirst, Sweepable, TablesKept}
 use Rattle.sweep.proofs.Seated.{met-triplet}
-use Rattle.sweep.proofs.Walk.{Walk, walk-first, walk-next, follower-next, kept-words, kept-guesses, kept-none, still-ready, ready-inside, first-none, first-open, first-skipped, first-kept, first-passed, first-lowered, first-visited}
+use Rattle.sweep.proofs.Walk.{Walk, walk-first, walk-next, follower-next, kept-mismatches, kept-guesses, kept-none, still-ready, ready-inside, first-none, first-open, first-skipped, first-kept, first-passed, first-lowered, first-visited}
 use borrow.Author.Tests.{not-false}
 use Rattle.sweep.proofs.with_first.Statement.{statement}
 use Rattle.sweep.proofs.with_first.Tie as tie
 
 abbrev Inv-loop : tie.InvT-loop
-Inv-loop states area weights next words₀ hints found₀ guesses₀ m n floor c a now₀ low₀ b₀ words found guesses now low b =
+Inv-loop states area weights next mismatches₀ hints gathered₀ guesses₀ m n floor c a now₀ low₀ b₀ mismatches gathered guesses now low b =
     Walk area n c (a + 1) b
-    × Kept states m (now₀ .made) words₀ words guesses
-    × Swept (WithFirst weights states area n (now₀ .made) c a b) (Candidate weights states area n (now₀ .made)) found₀ now₀ found now
+    × TablesKept states m (now₀ .made) mismatches₀ mismatches guesses
+    × Swept (WithFirst weights states area n (now₀ .made) c a b) (Candidate weights states area n (now₀ .made)) gathered₀ now₀ gathered now
     × Floored (WithFirst weights states area n (now₀ .made) c a b) floor low
 
 abbrev μ-loop : tie.MeasureT-loop
-μ-loop states area weights next words₀ hints found₀ guesses₀ m n floor c a now₀ low₀ b₀ words found guesses now low b = n - b
+μ-loop states area weights next mismatches₀ hints gathered₀ guesses₀ m n floor c a now₀ low₀ b₀ mismatches gathered guesses now low b = n - b
 
 -- The function's start, what a search needs now, the next type's follower, and the triplet met.
 abbrev start : tie.At-loop Inv-loop μ-loop → tie.Start Inv-loop μ-loop
@@ -34,7 +34,7 @@ start c = c .before .before .before .before .before .before .before .before .bef
 
 ready : (c : tie.At-loop Inv-loop μ-loop) →
     let s = start c .args in
-    Ready (s .states .now) (s .area .now) (s .weights .now) (s .next .now) (c .loop .words) (c .loop .found) (c .loop .guesses) (s .m) (s .n) (c .loop .now)
+    Sweepable (s .states .now) (s .area .now) (s .weights .now) (s .next .now) (c .loop .mismatches) (c .loop .gathered) (c .loop .guesses) (s .m) (s .n) (c .loop .now)
 ready c = still-ready (start c .pre .0) (c .loop .inv .2) (c .loop .inv .1)
 
 follower : (c : tie.In-loop Inv-loop μ-loop) →
@@ -51,21 +51,6 @@ triplet c t is =
     let h = c .loop-test .taken in
     rw is (met-triplet (s .args .c) (s .args .a) (c .before .loop .b) (s .pre .3) (w .linked h) (omega (arith, w .on)) h (s .pre .1))
 
-mul-b : tie.Need-mul-b Inv-loop μ-loop
-mul-b c = omega arith
-
-add-b : tie.Need-add-b Inv-loop μ-loop
-add-b c = omega arith
-
-add-b-2 : tie.Need-add-b-2 Inv-loop μ-loop
-add-b-2 c = omega arith
-
-mul-b-2 : tie.Need-mul-b-2 Inv-loop μ-loop
-mul-b-2 c = omega arith
-
-shared-slice-read-b : tie.Need-shared-slice-read-b Inv-loop μ-loop
-shared-slice-read-b c = omega arith
-
 cast-b : tie.Need-cast-b Inv-loop μ-loop
 cast-b c = let s = c .before .before .before .before .before .before .before .before .before .args in omega (arith, c .shared-slice-known6 .given (129 * s .c + s .a + 1))
 
@@ -76,53 +61,20 @@ loop-holds c =
     let f = follower-next (ready .follows) (s .args .c) (s .pre .1) (s .args .a) (s .pre .2) in
     (walk-first f, kept-none ready, first-none ready (s .args .c) (s .args .a) f, first-open ready (s .args .c) (s .args .a) f)
 
-mul-if2 : tie.Need-mul-if2 Inv-loop μ-loop
-mul-if2 c = omega arith
-
-add-if2 : tie.Need-add-if2 Inv-loop μ-loop
-add-if2 c = omega arith
-
-mul-if2-2 : tie.Need-mul-if2-2 Inv-loop μ-loop
-mul-if2-2 c = omega arith
-
-shared-slice-read-if2 : tie.Need-shared-slice-read-if2 Inv-loop μ-loop
-shared-slice-read-if2 c = omega arith
-
-in-order-requires : tie.Need-in-order-requires Inv-loop μ-loop
-in-order-requires c κs = tt
-
 outlook-requires : tie.Need-outlook-requires Inv-loop μ-loop
 outlook-requires c κs =
     let o = c .before in
     let i = o .before .before in
     let r = ready (i .before) in
     let inside = ready-inside r (triplet i (o .in-order .result) (o .in-order .ensures)) in
-    (r .worded, omega (arith, r .room), r .lie, r .cells, inside .u-made, inside .v-made, inside .w-made)
-
-lesser-requires : tie.Need-lesser-requires Inv-loop μ-loop
-lesser-requires c κs = tt
+    (r .remembered, omega (arith, r .room), r .lie, r .cells, inside .u-made, inside .v-made, inside .w-made)
 
 visit-requires : tie.Need-visit-requires Inv-loop μ-loop
 visit-requires c κs =
     let o = c .before .before .before .before .before .before .before .before .before in
     let i = o .before .before in
     let r = ready (i .before) in
-    (r .weighed, ready-inside r (triplet i (o .in-order .result) (o .in-order .ensures)), r .found-size, r .guesses-size)
-
-mul-b-3 : tie.Need-mul-b-3 Inv-loop μ-loop
-mul-b-3 c = omega arith
-
-add-b-3 : tie.Need-add-b-3 Inv-loop μ-loop
-add-b-3 c = omega arith
-
-add-b-4 : tie.Need-add-b-4 Inv-loop μ-loop
-add-b-4 c = omega arith
-
-mul-b-4 : tie.Need-mul-b-4 Inv-loop μ-loop
-mul-b-4 c = omega arith
-
-shared-slice-read-b-2 : tie.Need-shared-slice-read-b-2 Inv-loop μ-loop
-shared-slice-read-b-2 c = omega arith
+    (r .weighed, ready-inside r (triplet i (o .in-order .result) (o .in-order .ensures)), r .gathered-size, r .guesses-size)
 
 cast-b-2 : tie.Need-cast-b-2 Inv-loop μ-loop
 cast-b-2 c =
@@ -143,9 +95,9 @@ loop-again c =
     let stays = l .inv .2 .made-stays in (
       walk-next (l .inv .0) f,
       ⊎-elim
-          (λ w. rw (w .16, w .18) (kept-guesses (kept-words stays (l .inv .1) (w .3 .ensures .1 .cached) (w .3 .ensures .2)) (w .11 .ensures .0)))
+          (λ w. rw (w .16, w .18) (kept-guesses (kept-mismatches stays (l .inv .1) (w .3 .ensures .1 .cached) (w .3 .ensures .2)) (w .11 .ensures .0)))
           (⊎-elim
-          (λ w. rw (w .9, w .11) (kept-words stays (l .inv .1) (w .3 .ensures .1 .cached) (w .3 .ensures .2)))
+          (λ w. rw (w .9, w .11) (kept-mismatches stays (l .inv .1) (w .3 .ensures .1 .cached) (w .3 .ensures .2)))
           (λ w. rw (w .3, w .5) (l .inv .1)))
           (c .before .if1 .came),
       ⊎-elim
@@ -163,7 +115,7 @@ loop-again c =
     )
 
 same-length : tie.Need-same-length Inv-loop μ-loop
-same-length c = c .before .loop .inv .1 .words-size
+same-length c = c .before .loop .inv .1 .mismatches-size
 
 same-length-2 : tie.Need-same-length-2 Inv-loop μ-loop
 same-length-2 c = c .before .loop .inv .2 .size
@@ -183,26 +135,26 @@ with-first-spec =
     (tie.spec
     Inv-loop
     μ-loop
-    mul-b
-    add-b
-    add-b-2
-    mul-b-2
-    shared-slice-read-b
+    (λ c. omega arith)
+    (λ c. omega arith)
+    (λ c. omega arith)
+    (λ c. omega arith)
+    (λ c. omega arith)
     cast-b
     loop-holds
-    mul-if2
-    add-if2
-    mul-if2-2
-    shared-slice-read-if2
-    in-order-requires
+    (λ c. omega arith)
+    (λ c. omega arith)
+    (λ c. omega arith)
+    (λ c. omega arith)
+    (λ c κs. tt)
     outlook-requires
-    lesser-requires
+    (λ c κs. tt)
     visit-requires
-    mul-b-3
-    add-b-3
-    add-b-4
-    mul-b-4
-    shared-slice-read-b-2
+    (λ c. omega arith)
+    (λ c. omega arith)
+    (λ c. omega arith)
+    (λ c. omega arith)
+    (λ c. omega arith)
     cast-b-2
     loop-less
     loop-again

@@ -5,17 +5,11 @@ use Rattle.text.proofs.Left.{brief-left}
 use Rattle.text.proofs.brief.Statement.{statement}
 use Rattle.text.proofs.brief.Tie as tie
 
-brief-room-requires : tie.Need-brief-room-requires
-brief-room-requires c κs = search needs
-
 text-within-requires : tie.Need-text-within-requires
 text-within-requires c κs = λ _. omega (arith, c .before .brief-room .ensures)
-
-same-length : tie.Need-same-length
-same-length c = search needs
 
 returns : tie.Need-returns
 returns c = brief-left (rw (c .before .before .before .before .brief-room .ensures) at (c .before .before .text-within .ensures))
 
 pub brief-spec : {M : Type 1} → statement M
-brief-spec = tie.close (tie.spec brief-room-requires text-within-requires same-length returns)
+brief-spec = tie.close (tie.spec (λ c κs. search needs) text-within-requires (λ c. search needs) returns)

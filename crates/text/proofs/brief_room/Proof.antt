@@ -10,32 +10,11 @@ use Rattle.text.proofs.brief_room.Tie as tie
 found : (c : tie.Else1) → number (c .before .before .before .before .args .answer) ≡ 0
 found c = sym (c .before .before .tell .ensures .number-is) ∙ c .if1 .left
 
-tell-requires : tie.Need-tell-requires
-tell-requires c κs = search needs
-
 returns : tie.Need-returns
 returns c = sym (brief-line _ _ (λ z. c .if1 .taken (c .before .before .tell .ensures .number-is ∙ z)))
 
 returns-2 : tie.Need-returns-2
 returns-2 c = sym (brief-none _ _ (found (c .before)) (c .if2 .taken))
-
-word-at-requires : tie.Need-word-at-requires
-word-at-requires c κs = search needs
-
-mul-result : tie.Need-mul-result
-mul-result c = search needs
-
-add-result : tie.Need-add-result
-add-result c = search needs
-
-word-at-requires-2 : tie.Need-word-at-requires-2
-word-at-requires-2 c κs = search needs
-
-mul-result-2 : tie.Need-mul-result-2
-mul-result-2 c = search needs
-
-add-result-2 : tie.Need-add-result-2
-add-result-2 c = search needs
 
 returns-3 : tie.Need-returns-3
 returns-3 c =
@@ -46,13 +25,13 @@ pub brief-room-spec : {M : Type 1} → statement M
 brief-room-spec =
     tie.close
     (tie.spec
-    tell-requires
+    (λ c κs. search needs)
     returns
     returns-2
-    word-at-requires
-    mul-result
-    add-result
-    word-at-requires-2
-    mul-result-2
-    add-result-2
+    (λ c κs. search needs)
+    (λ c. search needs)
+    (λ c. search needs)
+    (λ c κs. search needs)
+    (λ c. search needs)
+    (λ c. search needs)
     returns-3)

@@ -16,9 +16,6 @@ matched c = sym (c .before .block-matches .ensures) ∙ not-false _ (c .if1 .lef
 long : (c : tie.Else1) → 16 ≤ length (c .before .before .before .before .args .block .now)
 long c = let a = c .before .before .before .before .args in matched-is (a .job .now) (a .block .now) (matched c) .header .head
 
-block-matches-requires : tie.Need-block-matches-requires
-block-matches-requires c κs = tt
-
 returns : tie.Need-returns
 returns c = rw (sym (c .before .block-matches .ensures) ∙ not-true _ (c .if1 .taken))
 
@@ -27,12 +24,6 @@ word-at-requires c κs = omega (arith, long c)
 
 word-at-requires-2 : tie.Need-word-at-requires-2
 word-at-requires-2 c κs = omega (arith, long (c .before .before))
-
-mul-result : tie.Need-mul-result
-mul-result c = omega arith
-
-add-result : tie.Need-add-result
-add-result c = omega arith
 
 returns-2 : tie.Need-returns-2
 returns-2 c =
@@ -48,11 +39,11 @@ pub is-legible-spec : {M : Type 1} → statement M
 is-legible-spec =
     tie.close
     (tie.spec
-    block-matches-requires
+    (λ c κs. tt)
     returns
     word-at-requires
     word-at-requires-2
-    mul-result
-    add-result
+    (λ c. omega arith)
+    (λ c. omega arith)
     returns-2
     returns-3)

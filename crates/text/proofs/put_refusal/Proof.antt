@@ -8,7 +8,7 @@ use lib.ListN.{getD}
 use Rattle.graph.specs.Below.{gather}
 use Rattle.rules.specs.Job.{Bytes}
 use Rattle.rules.specs.Text.{text, say}
-use Rattle.memory.proofs.lines.Upto.{Upto, upto-none, upto-length, upto-room, upto-more}
+use Rattle.memory.proofs.decimals.Upto.{Upto, upto-none, upto-length, upto-room, upto-more}
 use Rattle.text.proofs.Room.{refusal-most}
 use Rattle.text.proofs.put_refusal.Statement.{statement}
 use Rattle.text.proofs.put_refusal.Tie as tie
@@ -43,22 +43,13 @@ three : (c : tie.After-put) → Done 3 (s2 (c .before .before .before .before .b
 unfolding text
 three c = upto-more (two (c .before .before .before .before .before)) (lit< tt) refl (c .put .ensures)
 
-slice-aggregate-say : tie.Need-slice-aggregate-say
-slice-aggregate-say c = refl
-
 say-requires : tie.Need-say-requires
 unfolding text
 say-requires c κs = upto-room (none (c .before .before .before)) (lit< tt) refl
 
-slice-aggregate-say-2 : tie.Need-slice-aggregate-say-2
-slice-aggregate-say-2 c = refl
-
 say-requires-2 : tie.Need-say-requires-2
 unfolding text
 say-requires-2 c κs = upto-room (one (c .before .before .before .before)) (lit< tt) refl
-
-slice-aggregate-put : tie.Need-slice-aggregate-put
-slice-aggregate-put c = refl
 
 put-requires : tie.Need-put-requires
 unfolding text
@@ -75,11 +66,11 @@ pub put-refusal-spec : {M : Type 1} → statement M
 put-refusal-spec =
     tie.close
     (tie.spec
-    slice-aggregate-say
+    (λ c. refl)
     say-requires
-    slice-aggregate-say-2
+    (λ c. refl)
     say-requires-2
-    slice-aggregate-put
+    (λ c. refl)
     put-requires
     same-length
     returns)

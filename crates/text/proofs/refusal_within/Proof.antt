@@ -12,12 +12,6 @@ use Rattle.text.proofs.refusal_within.Tie as tie
 enough : (c : tie.Else1) → let a = c .before .before .before .before .before .before .args in a .room ≤ length (a .out .now)
 enough c = leb-true _ _ (sym (c .before .before .before .make-room .ensures .1) ∙ not-false _ (c .if1 .left))
 
-make-room-requires : tie.Need-make-room-requires
-make-room-requires c κs = search needs
-
-same-length : tie.Need-same-length
-same-length c = search needs
-
 returns : tie.Need-returns
 returns c =
     let m = c .before .before .before .make-room in
@@ -25,9 +19,6 @@ returns c =
 
 put-refusal-requires : tie.Need-put-refusal-requires
 put-refusal-requires c κs = omega (arith, enough (c .before), c .before .before .before .before .before .before .before .pre)
-
-same-length-2 : tie.Need-same-length-2
-same-length-2 c = search needs
 
 returns-2 : tie.Need-returns-2
 returns-2 c =
@@ -38,4 +29,4 @@ returns-2 c =
 pub refusal-within-spec : {M : Type 1} → statement M
 refusal-within-spec =
     tie.close
-    (tie.spec make-room-requires same-length returns put-refusal-requires same-length-2 returns-2)
+    (tie.spec (λ c κs. search needs) (λ c. search needs) returns put-refusal-requires (λ c. search needs) returns-2)

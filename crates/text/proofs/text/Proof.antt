@@ -8,11 +8,8 @@ use Rattle.text.proofs.text.Tie as tie
 text-within-requires : tie.Need-text-within-requires
 text-within-requires c κs = every-suffices _ _ _
 
-same-length : tie.Need-same-length
-same-length c = search needs
-
 returns : tie.Need-returns
 returns c = every-left (c .before .before .text-within .ensures)
 
 pub text-spec : {M : Type 1} → statement M
-text-spec = tie.close (tie.spec text-within-requires same-length returns)
+text-spec = tie.close (tie.spec text-within-requires (λ c. search needs) returns)

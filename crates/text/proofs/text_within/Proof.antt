@@ -22,17 +22,11 @@ found c = sym (c .before .before .tell .ensures .number-is) ∙ c .if1 .left
 enough : (c : tie.Else2) → let a = entry (c .before .before .before .before .before) .args in a .room ≤ length (a .out .now)
 enough c = leb-true _ _ (sym (c .before .before .before .make-room .ensures .1) ∙ not-false _ (c .if2 .left))
 
-tell-requires : tie.Need-tell-requires
-tell-requires c κs = search needs
-
 refusal-within-requires : tie.Need-refusal-within-requires
 refusal-within-requires c κs =
     let then = c .before in
     let told = then .before .before .tell .ensures in
     line-fits _ _ _ (then .before .before .before .before .before .before .pre) (λ z. then .if1 .taken (told .number-is ∙ z))
-
-same-length : tie.Need-same-length
-same-length c = search needs
 
 returns : tie.Need-returns
 returns c =
@@ -40,22 +34,10 @@ returns c =
     let told = then .before .before .tell .ensures in
     refusal-left _ _ _ _ _ (told .number-is) (told .place-is) (then .if1 .taken) (c .before .before .refusal-within .ensures)
 
-make-room-requires : tie.Need-make-room-requires
-make-room-requires c κs = search needs
-
-same-length-2 : tie.Need-same-length-2
-same-length-2 c = search needs
-
 returns-2 : tie.Need-returns-2
 returns-2 c =
     let room = c .before .before .before in
     room-left _ _ _ _ _ (room .make-room .ensures .0) (found (room .before .before)) (leb-false _ _ (sym (room .make-room .ensures .1) ∙ not-true _ (c .if2 .taken)))
-
-is-legible-requires : tie.Need-is-legible-requires
-is-legible-requires c κs = search needs
-
-same-length-3 : tie.Need-same-length-3
-same-length-3 c = search needs
 
 returns-3 : tie.Need-returns-3
 returns-3 c =
@@ -71,9 +53,6 @@ put-network-requires c κs =
     let l = sym (test .before .is-legible .ensures) ∙ not-false _ (test .if3 .left) in
     (l, omega (arith, enough (test .before .before), network-fits _ _ _ (entry start .pre) (found start) l))
 
-same-length-4 : tie.Need-same-length-4
-same-length-4 c = search needs
-
 returns-4 : tie.Need-returns-4
 returns-4 c =
     let put = c .before .before in
@@ -86,16 +65,16 @@ pub text-within-spec : {M : Type 1} → statement M
 text-within-spec =
     tie.close
     (tie.spec
-    tell-requires
+    (λ c κs. search needs)
     refusal-within-requires
-    same-length
+    (λ c. search needs)
     returns
-    make-room-requires
-    same-length-2
+    (λ c κs. search needs)
+    (λ c. search needs)
     returns-2
-    is-legible-requires
-    same-length-3
+    (λ c κs. search needs)
+    (λ c. search needs)
     returns-3
     put-network-requires
-    same-length-4
+    (λ c. search needs)
     returns-4)

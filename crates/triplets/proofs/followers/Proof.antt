@@ -33,12 +33,6 @@ follow-below-requires c κs =
     let p = start l .pre in
     (p .0, omega arith, p .1, e .1 .size ∙ l .loop .inv .size, e .0, filled-since (e .1))
 
-add-c : tie.Need-add-c Inv-loop μ-loop
-add-c c = omega arith
-
-loop-less : tie.Need-loop-less Inv-loop μ-loop
-loop-less c = omega arith
-
 loop-again : tie.Need-loop-again Inv-loop μ-loop
 loop-again c =
     let below = c .before .before in
@@ -61,8 +55,8 @@ followers-spec =
     loop-holds
     follow-above-requires
     follow-below-requires
-    add-c
-    loop-less
+    (λ c. omega arith)
+    (λ c. omega arith)
     loop-again
     same-length
     returns)

@@ -1,4 +1,4 @@
--- A row made that is mixed as the words of a triplet say is a median vector of the triplet.
+-- A row made that is mixed as the mismatches of a triplet say is a median vector of the triplet.
 use mathlib.Core.Path.{_≡_, refl, sym, ap, _∙_}
 use mathlib.Core.Logic.{_≢_, _⊎_, inl, inr}
 use mathlib.Core.Bool.{Bool, true, false, not, _&&_, false≢true}
@@ -15,22 +15,22 @@ use Rattle.rules.proofs.Between.{Held, common-held, median-is, median-held, eac
 use Rattle.types.specs.State.{storedAt}
 use Rattle.types.proofs.State.{length-storedAt, storedAt-state}
 use Rattle.triplets.specs.declared.Triplet.{Triplet}
-use Rattle.triplets.specs.Words.{word, differ, apartIn, Narrow}
-use Rattle.triplets.proofs.words.Words.{word-none, word-same, word-and, word-parts}
-use Rattle.triplets.proofs.words.Cached.{apart-sym, apart-self}
+use Rattle.triplets.specs.Mismatches.{bitsOf, differ, mismatchesIn, Narrow}
+use Rattle.triplets.proofs.mismatches.Mismatches.{bits-none, word-same, word-and, word-parts}
+use Rattle.triplets.proofs.mismatches.Cached.{apart-sym, apart-self}
 use Rattle.triplets.specs.declared.settled.Pairs.{Pairs}
 use Rattle.triplets.specs.Settled.{aloneIn, Mixed, Settled, PairsOf}
 
--- What is in both of two words and not in a third.
+-- What is in both of two numbers and not in a third.
 word-alone : (p q r : ℕ → Bool) (n c : ℕ) →
-    aloneIn (word p n c) (word q n c) (word r n c) ≡ word (λ i. (p i && q i) && not (r i)) n c
+    aloneIn (bitsOf p n c) (bitsOf q n c) (bitsOf r n c) ≡ bitsOf (λ i. (p i && q i) && not (r i)) n c
 word-alone p q r n c =
     rw (word-and p q n c, word-and (λ i. p i && q i) r n c) (omega (arith, word-parts (λ i. p i && q i) r n c))
 
 -- A row is mixed of itself: it has its own states in all characters but none.
 pub mixed-none : (states : Bytes) (m made u v k : ℕ) → u < made → k ≡ 0 → Mixed states m made u v k
 mixed-none states m made u v k h e =
-    record { row = u; is-made = h; with-first = apart-self states m u ∙ sym e; with-second = rw e (and-zero-r (apartIn states m v u)) }
+    record { row = u; is-made = h; with-first = apart-self states m u ∙ sym e; with-second = rw e (and-zero-r (mismatchesIn states m v u)) }
 
 -- Of states a, b and c: y is held by two, or all three differ and y is x. So it is what they have in common.
 abbrev Drawn : ℕ → ℕ → ℕ → ℕ → ℕ → Type 0
@@ -70,8 +70,8 @@ mixed-drawn a b c y = go (eqb a b) refl (eqb a c) refl (eqb b c) refl (eqb a y) 
     go false ab false ac false bc false ay t by e f = absurd (false≢true (sym e))
 
 module _ (states : Bytes) (made m : ℕ) (narrow : Narrow states made m) (rows : 64 * made ≤ length states) where
-  -- From character m on no row made has a state, so what words tell holds of all 64 characters.
-  everywhere : (p q : ℕ → Bool) → word p m 0 ≡ word q m 0 → ((c : ℕ) → m ≤ c → c < 64 → p c ≡ q c) → (c : ℕ) → c < 64 → p c ≡ q c
+  -- From character m on no row made has a state, so what mismatches tell holds of all 64 characters.
+  everywhere : (p q : ℕ → Bool) → bitsOf p m 0 ≡ bitsOf q m 0 → ((c : ℕ) → m ≤ c → c < 64 → p c ≡ q c) → (c : ℕ) → c < 64 → p c ≡ q c
   everywhere p q e past c h = elim (decLt c m) [
     | yes l ↦ word-same p q m 0 e c (omega arith) (omega arith)
     | no f ↦ past c (omega arith) h
@@ -92,13 +92,13 @@ module _ (states : Bytes) (made m : ℕ) (narrow : Narrow states made m) (rows :
       rw (storedAt-state states x c k, storedAt-state states u c k, storedAt-state states v c k, storedAt-state states w c k, storedAt-state states y c k)
       (drawn-common (at x c) (at y c) (at u c) (at v c) (at w c) (drawn c k))))
 
-  -- The states of a row mixed of u's and v's, by the words of u, v and w.
-  module _ (u v w : ℕ) (hu : u < made) (hv : v < made) {uv uw vw k : ℕ} (uv-is : uv ≡ apartIn states m u v) (uw-is : uw ≡ apartIn states m u w)
-      (vw-is : vw ≡ apartIn states m v w) (k-is : k ≡ aloneIn uv uw vw) (x : Mixed states m made u v k) where
+  -- The states of a row mixed of u's and v's, by the mismatches of u, v and w.
+  module _ (u v w : ℕ) (hu : u < made) (hv : v < made) {uv uw vw k : ℕ} (uv-is : uv ≡ mismatchesIn states m u v) (uw-is : uw ≡ mismatchesIn states m u w)
+      (vw-is : vw ≡ mismatchesIn states m v w) (k-is : k ≡ aloneIn uv uw vw) (x : Mixed states m made u v k) where
     abbrev mix : ℕ → Bool
     mix c = (differ states u v c && differ states u w c) && not (differ states v w c)
 
-    mix-is : k ≡ word mix m 0
+    mix-is : k ≡ bitsOf mix m 0
     mix-is = k-is ∙ rw (uv-is, uw-is, vw-is) (word-alone (differ states u v) (differ states u w) (differ states v w) m 0)
 
     mixed-states : (c : ℕ) → c < 64 → Drawn (at u c) (at (x .row) c) (at u c) (at v c) (at w c)
@@ -109,7 +109,7 @@ module _ (states : Bytes) (made m : ℕ) (narrow : Narrow states made m) (rows :
         (everywhere (differ states u y) mix (x .with-first ∙ mix-is)
         (λ c l h. rw (narrow .zeros c l h u hu, narrow .zeros c l h v hv, narrow .zeros c l h y hy)) c h)
         (everywhere (λ c. differ states v y c && mix c) (λ c. false)
-        (sym (word-and (differ states v y) mix m 0) ∙ ap (bitAnd (apartIn states m v y)) (sym mix-is) ∙ x .with-second ∙ sym (word-none m 0))
+        (sym (word-and (differ states v y) mix m 0) ∙ ap (bitAnd (mismatchesIn states m v y)) (sym mix-is) ∙ x .with-second ∙ sym (bits-none m 0))
         (λ c l h. rw (narrow .zeros c l h v hv, narrow .zeros c l h y hy)) c h)
 
   module _ (t : Triplet) (p : Pairs) (hu : t .u < made) (hv : t .v < made) (hw : t .w < made) (pairs : PairsOf states m t p) where
@@ -120,7 +120,7 @@ module _ (states : Bytes) (made m : ℕ) (narrow : Narrow states made m) (rows :
         let both : ℕ → Bool = λ c. differ states (t .u) (t .v) c && differ states (t .u) (t .w) c in
         everywhere (λ c. both c && differ states (t .v) (t .w) c) (λ c. false)
         (rw (pairs .uv-is, pairs .uw-is, pairs .vw-is, word-and (differ states (t .u) (t .v)) (differ states (t .u) (t .w)) m 0, word-and both (differ states (t .v) (t .w)) m 0) at e
-        ∙ sym (word-none m 0))
+        ∙ sym (bits-none m 0))
         (λ c l h. rw (narrow .zeros c l h (t .u) hu, narrow .zeros c l h (t .v) hv))
 
     drawn-held : {x y : ℕ} (c : ℕ) → (differ states (t .u) (t .v) c && differ states (t .u) (t .w) c) && differ states (t .v) (t .w) c ≡ false →
@@ -132,7 +132,7 @@ module _ (states : Bytes) (made m : ℕ) (narrow : Narrow states made m) (rows :
     -- So the median vectors are one.
     pub settled-one : {k : ℕ} → bitAnd (bitAnd (p .uv) (p .uw)) (p .vw) ≡ 0 → k ≡ aloneIn (p .uv) (p .uw) (p .vw) →
         Mixed states m made (t .u) (t .v) k → Settled states made t
-    settled-one none e x =
+    settled-one unknown e x =
         let y = x .row in
         let hy = x .is-made in
         each-median (λ r. (i : ℕ) × (i < made) × (storedAt states i ≡ r)) _ _ _ (λ r o. (
@@ -141,7 +141,7 @@ module _ (states : Bytes) (made m : ℕ) (narrow : Narrow states made m) (rows :
           sym (median-held r _ _ _ (storedAt states y) (one-of-length 64 (size (t .u) hu) (size (t .v) hv) (size (t .w) hw) o ∙ sym (size y hy)) (λ c h.
               let k : c < 64 = omega (arith, size y hy) in
               rw (storedAt-state states y c k, storedAt-state states (t .u) c k, storedAt-state states (t .v) c k, storedAt-state states (t .w) c k)
-              (drawn-held c (never-three none c k) (mixed-states (t .u) (t .v) (t .w) hu hv (pairs .uv-is) (pairs .uw-is) (pairs .vw-is) e x c k)))),
+              (drawn-held c (never-three unknown c k) (mixed-states (t .u) (t .v) (t .w) hu hv (pairs .uv-is) (pairs .uw-is) (pairs .vw-is) e x c k)))),
         ))
 
     -- Else they are three.

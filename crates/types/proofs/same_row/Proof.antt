@@ -18,26 +18,8 @@ Inv-loop states i row at bytes k₀ k = (k ≤ 8) × Alike states (64 * i) row (
 abbrev μ-loop : tie.MeasureT-loop
 μ-loop states i row at bytes k₀ k = 8 - k
 
-mul-at : tie.Need-mul-at Inv-loop μ-loop
-mul-at c = omega arith
-
 loop-holds : tie.Need-loop-holds Inv-loop μ-loop
 loop-holds c = (omega arith, λ x h. absurd (not-suc-le-zero h))
-
-mul-eight-at : tie.Need-mul-eight-at Inv-loop μ-loop
-mul-eight-at c = omega arith
-
-add-eight-at : tie.Need-add-eight-at Inv-loop μ-loop
-add-eight-at c = omega arith
-
-eight-at-requires : tie.Need-eight-at-requires Inv-loop μ-loop
-eight-at-requires c κs = omega arith
-
-mul-eight-at-2 : tie.Need-mul-eight-at-2 Inv-loop μ-loop
-mul-eight-at-2 c = omega arith
-
-eight-at-requires-2 : tie.Need-eight-at-requires-2 Inv-loop μ-loop
-eight-at-requires-2 c κs = omega arith
 
 returns : tie.Need-returns Inv-loop μ-loop
 returns c =
@@ -48,12 +30,6 @@ returns c =
     ∙ alike-eight (a .states .now) (a .row .now) (64 * a .i) (l .loop .k) {n = 64} (omega arith)
     (λ x h. sym (storedAt-state (a .states .now) (a .i) x h) ∙ ap (λ (r : Row). getD r x 0) (same-row _ _ .0 t))
     ∙ sym (c .before .eight-at2 .ensures .is))))
-
-add-k : tie.Need-add-k Inv-loop μ-loop
-add-k c = omega arith
-
-loop-less : tie.Need-loop-less Inv-loop μ-loop
-loop-less c = omega arith
 
 loop-again : tie.Need-loop-again Inv-loop μ-loop
 loop-again c =
@@ -81,15 +57,15 @@ same-row-spec =
     (tie.spec
     Inv-loop
     μ-loop
-    mul-at
+    (λ c. omega arith)
     loop-holds
-    mul-eight-at
-    add-eight-at
-    eight-at-requires
-    mul-eight-at-2
-    eight-at-requires-2
+    (λ c. omega arith)
+    (λ c. omega arith)
+    (λ c κs. omega arith)
+    (λ c. omega arith)
+    (λ c κs. omega arith)
     returns
-    add-k
-    loop-less
+    (λ c. omega arith)
+    (λ c. omega arith)
     loop-again
     returns-2)

@@ -21,23 +21,11 @@ abbrev μ-loop : tie.MeasureT-loop
 loop-holds : tie.Need-loop-holds Inv-loop μ-loop
 loop-holds c = (omega arith, below-none _)
 
-shared-slice-read-outside : tie.Need-shared-slice-read-outside Inv-loop μ-loop
-shared-slice-read-outside c = search needs
-
 cast-outside : tie.Need-cast-outside Inv-loop μ-loop
 cast-outside c = fits-8-64 (c .shared-slice-known2 .given _)
 
-outside-requires : tie.Need-outside-requires Inv-loop μ-loop
-outside-requires c κs = search needs
-
 returns : tie.Need-returns Inv-loop μ-loop
 returns c = sym (first-is _ _ _ (omega arith) (c .before .before .before .before .loop .inv .1) (λ h. sym (c .before .outside .ensures) ∙ c .if1 .taken))
-
-add-k : tie.Need-add-k Inv-loop μ-loop
-add-k c = search needs
-
-loop-less : tie.Need-loop-less Inv-loop μ-loop
-loop-less c = search needs
 
 loop-again : tie.Need-loop-again Inv-loop μ-loop
 loop-again c = (omega arith, below-more _ _ (c .before .before .before .before .loop .inv .1) (sym (c .before .outside .ensures) ∙ c .if1 .left))
@@ -52,11 +40,11 @@ first-outside-spec =
     Inv-loop
     μ-loop
     loop-holds
-    shared-slice-read-outside
+    (λ c. search needs)
     cast-outside
-    outside-requires
+    (λ c κs. search needs)
     returns
-    add-k
-    loop-less
+    (λ c. search needs)
+    (λ c. search needs)
     loop-again
     returns-2)

@@ -16,12 +16,6 @@ next c t e =
     let a = c .before .before .args in
     opened-more (a .text .now) (a .i) ∙ ap (λ (b : Bool). opened (a .text .now) (a .i) + cond b 1 0) (sym (c .opens .ensures) ∙ e)
 
-opens-requires : tie.Need-opens-requires
-opens-requires c κs = search needs
-
-add-result : tie.Need-add-result
-add-result c = search needs
-
 returns : tie.Need-returns
 returns c = let o = c .before in omega (arith, o .before .before .pre .1, next o true (c .if1 .taken))
 
@@ -29,4 +23,4 @@ returns-2 : tie.Need-returns-2
 returns-2 c = let o = c .before in omega (arith, o .before .before .pre .1, next o false (c .if1 .left))
 
 pub next-begun-spec : {M : Type 1} → statement M
-next-begun-spec = tie.close (tie.spec opens-requires add-result returns returns-2)
+next-begun-spec = tie.close (tie.spec (λ c κs. search needs) (λ c. search needs) returns returns-2)

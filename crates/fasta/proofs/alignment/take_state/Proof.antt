@@ -40,17 +40,8 @@ returns c =
     let s = c .before .before .before in
     taken-fault _ _ (before-is (s .args .text .now) (s .args .i) (s .pre .0) (sym (s .pre .1 .begun-is) ∙ c .if1 .taken)) refl (s .pre .1 .lengths-are)
 
-shared-slice-read-outside : tie.Need-shared-slice-read-outside
-shared-slice-read-outside c = search needs
-
 cast-outside : tie.Need-cast-outside
 cast-outside c = fits-8-64 (c .shared-slice-known2 .given _)
-
-outside-requires : tie.Need-outside-requires
-outside-requires c κs = search needs
-
-sub-full : tie.Need-sub-full
-sub-full c = search needs
 
 slice-read-full : tie.Need-slice-read-full
 slice-read-full c = within (c .before)
@@ -69,9 +60,6 @@ returns-3 c =
     let full : 64 ≤ held (s .args .text .now) (s .args .i) = omega (arith, held-is _ _ (s .pre .1) (begun-some o), leb-true 64 (count o) (c .if3 .taken)) in
     taken-fault _ _ (wide-is _ _ (s .pre .0) (some o) (good e) full) refl (s .pre .1 .lengths-are)
 
-sub-lengths : tie.Need-sub-lengths
-sub-lengths c = search needs
-
 slice-read-lengths : tie.Need-slice-read-lengths
 slice-read-lengths c = within (c .before .before .before .before)
 
@@ -80,9 +68,6 @@ add-lengths c = omega (arith, leb-false 64 (count (c .before .before .before .be
 
 slice-write-lengths : tie.Need-slice-write-lengths
 slice-write-lengths c = within (c .before .before .before .before)
-
-same-length : tie.Need-same-length
-same-length c = search needs
 
 returns-4 : tie.Need-returns-4
 returns-4 c =
@@ -98,16 +83,16 @@ take-state-spec =
     tie.close
     (tie.spec
     returns
-    shared-slice-read-outside
+    (λ c. search needs)
     cast-outside
-    outside-requires
-    sub-full
+    (λ c κs. search needs)
+    (λ c. search needs)
     slice-read-full
     returns-2
     returns-3
-    sub-lengths
+    (λ c. search needs)
     slice-read-lengths
     add-lengths
     slice-write-lengths
-    same-length
+    (λ c. search needs)
     returns-4)

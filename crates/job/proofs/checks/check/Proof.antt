@@ -11,23 +11,11 @@ returns : tie.Need-returns
 unfolding checked
 returns c = rw (lt-ltb _ _ (c .if1 .taken))
 
-word-at-requires : tie.Need-word-at-requires
-word-at-requires c κs = omega arith
-
-outside-requires : tie.Need-outside-requires
-outside-requires c κs = tt
-
 returns-2 : tie.Need-returns-2
 unfolding checked
 returns-2 c =
     let w = c .before .before in
     rw (le-ltb _ _ (w .before .if1 .left), ← w .word-at .ensures .is, ← c .before .outside .ensures, c .if2 .taken)
-
-word-at-requires-2 : tie.Need-word-at-requires-2
-word-at-requires-2 c κs = omega arith
-
-outside-requires-2 : tie.Need-outside-requires-2
-outside-requires-2 c κs = tt
 
 returns-3 : tie.Need-returns-3
 unfolding checked
@@ -68,11 +56,11 @@ check-spec =
     tie.close
     (tie.spec
     returns
-    word-at-requires
-    outside-requires
+    (λ c κs. omega arith)
+    (λ c κs. tt)
     returns-2
-    word-at-requires-2
-    outside-requires-2
+    (λ c κs. omega arith)
+    (λ c κs. tt)
     returns-3
     check-layout-requires
     returns-4)

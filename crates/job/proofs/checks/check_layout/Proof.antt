@@ -5,22 +5,10 @@ use Rattle.job.proofs.contents.Stages.{agree, differ, sized, few-states
 use Rattle.job.proofs.checks.check_layout.Statement.{statement}
 use Rattle.job.proofs.checks.check_layout.Tie as tie
 
-word-at-requires : tie.Need-word-at-requires
-word-at-requires c κs = omega arith
-
 returns : tie.Need-returns
 returns c =
     let w = c .before in
     rw (sized (w .before .before .pre), differ (w .word-at .ensures .is) (c .if1 .taken))
-
-word-at-requires-2 : tie.Need-word-at-requires-2
-word-at-requires-2 c κs = omega arith
-
-mul-if2 : tie.Need-mul-if2
-mul-if2 c = omega arith
-
-add-if2 : tie.Need-add-if2
-add-if2 c = omega arith
 
 returns-2 : tie.Need-returns-2
 returns-2 c =
@@ -32,20 +20,11 @@ returns-2 c =
       differ (w2 .word-at2 .ensures .is) (c .if2 .taken),
     )
 
-mul-whole : tie.Need-mul-whole
-mul-whole c = omega arith
-
-add-whole : tie.Need-add-whole
-add-whole c = omega arith
-
 mul-whole-2 : tie.Need-mul-whole-2
 mul-whole-2 c = omega (arith, few-states (c .before .before .before .before .before .pre))
 
 add-whole-2 : tie.Need-add-whole-2
 add-whole-2 c = omega (arith, few-states (c .before .before .before .before .before .pre))
-
-word-at-requires-3 : tie.Need-word-at-requires-3
-word-at-requires-3 c κs = omega arith
 
 returns-3 : tie.Need-returns-3
 returns-3 c =
@@ -72,9 +51,6 @@ returns-4 c =
       ne-eqb _ _ (c .if4 .taken),
     )
 
-check-contents-requires : tie.Need-check-contents-requires
-check-contents-requires c κs = omega arith
-
 returns-5 : tie.Need-returns-5
 returns-5 c = c .check-contents .ensures
 
@@ -82,18 +58,18 @@ pub check-layout-spec : {M : Type 1} → statement M
 check-layout-spec =
     tie.close
     (tie.spec
-    word-at-requires
+    (λ c κs. omega arith)
     returns
-    word-at-requires-2
-    mul-if2
-    add-if2
+    (λ c κs. omega arith)
+    (λ c. omega arith)
+    (λ c. omega arith)
     returns-2
-    mul-whole
-    add-whole
+    (λ c. omega arith)
+    (λ c. omega arith)
     mul-whole-2
     add-whole-2
-    word-at-requires-3
+    (λ c κs. omega arith)
     returns-3
     returns-4
-    check-contents-requires
+    (λ c κs. omega arith)
     returns-5)

@@ -30,12 +30,6 @@ Inv-rows job n m first place₀ row₀ place row =
 abbrev μ-rows : tie.MeasureT-rows
 μ-rows job n m first place₀ row₀ place row = n - row
 
-mul-first : tie.Need-mul-first Inv-loop μ-loop Inv-rows μ-rows
-mul-first c = omega arith
-
-add-first : tie.Need-add-first Inv-loop μ-loop Inv-rows μ-rows
-add-first c = omega arith
-
 rows-holds : tie.Need-rows-holds Inv-loop μ-loop Inv-rows μ-rows
 rows-holds c = (omega arith, omega arith, below-none _)
 
@@ -44,37 +38,13 @@ loop-holds c =
     let m = c .before .before .before .args .m in
     (omega arith, omega arith, omega (arith, mul-le-mul-right m (c .rows-test .taken)), c .before .rows .inv .2)
 
-add-outside : tie.Need-add-outside Inv-loop μ-loop Inv-rows μ-rows
-add-outside c = omega arith
-
-shared-slice-read-outside : tie.Need-shared-slice-read-outside Inv-loop μ-loop Inv-rows μ-rows
-shared-slice-read-outside c = omega arith
-
 cast-outside : tie.Need-cast-outside Inv-loop μ-loop Inv-rows μ-rows
 cast-outside c = fits-8-64 (c .shared-slice-known2 .given _)
-
-outside-requires : tie.Need-outside-requires Inv-loop μ-loop Inv-rows μ-rows
-outside-requires c κs = tt
-
-add-place : tie.Need-add-place Inv-loop μ-loop Inv-rows μ-rows
-add-place c = omega arith
-
-add-column : tie.Need-add-column Inv-loop μ-loop Inv-rows μ-rows
-add-column c = omega arith
-
-loop-less : tie.Need-loop-less Inv-loop μ-loop Inv-rows μ-rows
-loop-less c = omega arith
 
 loop-again : tie.Need-loop-again Inv-loop μ-loop Inv-rows μ-rows
 loop-again c =
     let l = c .before .before .before .before .loop in
     (omega arith, omega arith, l .inv .2, below-more _ _ (l .inv .3) (sym (c .before .outside .ensures) ∙ c .if1 .left))
-
-add-row : tie.Need-add-row Inv-loop μ-loop Inv-rows μ-rows
-add-row c = omega arith
-
-rows-less : tie.Need-rows-less Inv-loop μ-loop Inv-rows μ-rows
-rows-less c = omega arith
 
 rows-again : tie.Need-rows-again Inv-loop μ-loop Inv-rows μ-rows
 rows-again c = (omega arith, omega arith, c .before .loop .inv .3)
@@ -102,20 +72,20 @@ bad-state-spec =
     μ-loop
     Inv-rows
     μ-rows
-    mul-first
-    add-first
+    (λ c. omega arith)
+    (λ c. omega arith)
     rows-holds
     loop-holds
-    add-outside
-    shared-slice-read-outside
+    (λ c. omega arith)
+    (λ c. omega arith)
     cast-outside
-    outside-requires
-    add-place
-    add-column
-    loop-less
+    (λ c κs. tt)
+    (λ c. omega arith)
+    (λ c. omega arith)
+    (λ c. omega arith)
     loop-again
-    add-row
-    rows-less
+    (λ c. omega arith)
+    (λ c. omega arith)
     rows-again
     returns
     returns-2)

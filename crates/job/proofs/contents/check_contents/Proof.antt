@@ -5,15 +5,6 @@ use Rattle.job.proofs.contents.Stages.{laid-out}
 use Rattle.job.proofs.contents.check_contents.Statement.{statement}
 use Rattle.job.proofs.contents.check_contents.Tie as tie
 
-mul-states : tie.Need-mul-states
-mul-states c = omega arith
-
-bad-weight-requires : tie.Need-bad-weight-requires
-bad-weight-requires c κs = omega arith
-
-bad-state-requires : tie.Need-bad-state-requires
-bad-state-requires c κs = omega arith
-
 returns : tie.Need-returns
 returns c =
     let w = c .before .before in
@@ -44,4 +35,4 @@ returns-3 c =
     )
 
 pub check-contents-spec : {M : Type 1} → statement M
-check-contents-spec = tie.close (tie.spec mul-states bad-weight-requires bad-state-requires returns returns-2 returns-3)
+check-contents-spec = tie.close (tie.spec (λ c. omega arith) (λ c κs. omega arith) (λ c κs. omega arith) returns returns-2 returns-3)

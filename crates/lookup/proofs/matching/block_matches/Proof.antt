@@ -13,20 +13,11 @@ use Rattle.lookup.proofs.matching.block_matches.Tie as tie
 told : (c : tie.After-tell) → c .tell .result .number ≡ number (checked (c .before .before .before .before .args .job .now))
 told c = c .tell .ensures .number-is ∙ ap number (c .before .check .ensures)
 
-check-requires : tie.Need-check-requires
-check-requires c κs = search needs
-
-tell-requires : tie.Need-tell-requires
-tell-requires c κs = search needs
-
 returns : tie.Need-returns
 returns c = rw (ne-eqb _ _ (λ z. c .if1 .taken (told (c .before .before) ∙ z)))
 
 word-at-requires : tie.Need-word-at-requires
 word-at-requires c κs = omega (arith, passed-is _ (sym (told (c .before .before)) ∙ c .if1 .left) .head)
-
-header-fits-requires : tie.Need-header-fits-requires
-header-fits-requires c κs = search needs
 
 returns-2 : tie.Need-returns-2
 returns-2 c =
@@ -34,4 +25,4 @@ returns-2 c =
     rw (eq-eqb _ _ (sym (told (w .before .before .before)) ∙ w .before .if1 .left), ← w .word-at .ensures .is) (c .header-fits .ensures)
 
 pub block-matches-spec : {M : Type 1} → statement M
-block-matches-spec = tie.close (tie.spec check-requires tell-requires returns word-at-requires header-fits-requires returns-2)
+block-matches-spec = tie.close (tie.spec (λ c κs. search needs) (λ c κs. search needs) returns word-at-requires (λ c κs. search needs) returns-2)

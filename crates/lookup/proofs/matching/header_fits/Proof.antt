@@ -12,12 +12,6 @@ use Rattle.lookup.proofs.matching.header_fits.Tie as tie
 returns : tie.Need-returns
 returns c = rw (lt-leb 16 _ (c .if1 .taken))
 
-word-at-requires : tie.Need-word-at-requires
-word-at-requires c κs = search needs
-
-word-at-requires-2 : tie.Need-word-at-requires-2
-word-at-requires-2 c κs = search needs
-
 returns-2 : tie.Need-returns-2
 returns-2 c =
     let w2 = c .before in
@@ -27,15 +21,6 @@ returns-2 c =
     (no-header (a .m) (a .block .now) (w .word-at .result) (w2 .word-at2 .result)
     (λ h. ⊎-elim (λ o. omega arith) (⊎-elim (λ o. omega (arith, ltb-true)) (λ o. omega (arith, ltb-true))) (c .if2 .came)))
 
-mul-rows : tie.Need-mul-rows
-mul-rows c = search needs
-
-add-rows : tie.Need-add-rows
-add-rows c = search needs
-
-sub-links : tie.Need-sub-links
-sub-links c = search needs
-
 add-links : tie.Need-add-links
 add-links c =
     let w2 = c .before .before .before in
@@ -44,18 +29,6 @@ add-links c =
 
 mul-links : tie.Need-mul-links
 mul-links c = omega (arith, add-links c)
-
-word-at-requires-3 : tie.Need-word-at-requires-3
-word-at-requires-3 c κs = search needs
-
-word-at-requires-4 : tie.Need-word-at-requires-4
-word-at-requires-4 c κs = search needs
-
-word-at-requires-5 : tie.Need-word-at-requires-5
-word-at-requires-5 c κs = search needs
-
-word-at-requires-6 : tie.Need-word-at-requires-6
-word-at-requires-6 c κs = search needs
 
 returns-3 : tie.Need-returns-3
 returns-3 c =
@@ -97,17 +70,17 @@ header-fits-spec =
     tie.close
     (tie.spec
     returns
-    word-at-requires
-    word-at-requires-2
+    (λ c κs. search needs)
+    (λ c κs. search needs)
     returns-2
-    mul-rows
-    add-rows
-    sub-links
+    (λ c. search needs)
+    (λ c. search needs)
+    (λ c. search needs)
     mul-links
     add-links
-    word-at-requires-3
-    word-at-requires-4
-    word-at-requires-5
-    word-at-requires-6
+    (λ c κs. search needs)
+    (λ c κs. search needs)
+    (λ c κs. search needs)
+    (λ c κs. search needs)
     returns-3
     returns-4)

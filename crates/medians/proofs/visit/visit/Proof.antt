@@ -7,18 +7,6 @@ use Rattle.medians.proofs.visit.Visiting.{still-inside, is-median, visi
 use Rattle.medians.proofs.visit.visit.Statement.{statement}
 use Rattle.medians.proofs.visit.visit.Tie as tie
 
-medians-requires : tie.Need-medians-requires
-medians-requires c κs = search needs
-
-array-copy-out-first : tie.Need-array-copy-out-first
-array-copy-out-first c = search needs
-
-array-copy-out-second : tie.Need-array-copy-out-second
-array-copy-out-second c = search needs
-
-array-copy-out-third : tie.Need-array-copy-out-third
-array-copy-out-third c = search needs
-
 consider-requires : tie.Need-consider-requires
 consider-requires c κs =
     let m = c .before .before .before .before .before .before in
@@ -40,12 +28,6 @@ alike-requires c κs =
     let m = c .before .before .before .before .before .before .before .before .before .before .before .before .before in
     let i = m .before .before .before .before .before .pre .1 in
     (median-wide i (is-median _ _ (m .medians .ensures) _ (omega arith)), median-wide i (is-median _ _ (m .medians .ensures) _ (omega arith)))
-
-same-length : tie.Need-same-length
-same-length c = search needs
-
-same-length-2 : tie.Need-same-length-2
-same-length-2 c = search needs
 
 returns : tie.Need-returns
 returns c =
@@ -96,16 +78,16 @@ pub visit-spec : {M : Type 1} → statement M
 visit-spec =
     tie.close
     (tie.spec
-    medians-requires
-    array-copy-out-first
-    array-copy-out-second
-    array-copy-out-third
+    (λ c κs. search needs)
+    (λ c. search needs)
+    (λ c. search needs)
+    (λ c. search needs)
     consider-requires
     slice-aggregate-alike
     slice-aggregate-alike-2
     alike-requires
-    same-length
-    same-length-2
+    (λ c. search needs)
+    (λ c. search needs)
     returns
     consider-requires-2
     consider-requires-3

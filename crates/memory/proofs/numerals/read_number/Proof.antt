@@ -24,9 +24,6 @@ returns c = other-is _ (λ w. omega (arith, w .some-digit))
 loop-holds : tie.Need-loop-holds Inv-loop μ-loop
 loop-holds c = (omega arith, omega arith, value-none _, below-none _)
 
-shared-slice-read-digit : tie.Need-shared-slice-read-digit Inv-loop μ-loop
-shared-slice-read-digit c = omega arith
-
 cast-digit : tie.Need-cast-digit Inv-loop μ-loop
 cast-digit c = omega (arith, c .shared-slice-known .given (c .before .before .loop .i))
 
@@ -38,23 +35,11 @@ returns-3 : tie.Need-returns-3 Inv-loop μ-loop
 returns-3 c =
     let l = c .before .before .before .before .loop in other-is _ (λ w. omega (arith, w .digits (l .i) (omega arith) .at-most))
 
-mul-value : tie.Need-mul-value Inv-loop μ-loop
-mul-value c = omega arith
-
-add-value : tie.Need-add-value Inv-loop μ-loop
-add-value c = omega arith
-
 returns-4 : tie.Need-returns-4 Inv-loop μ-loop
 returns-4 c =
     let b = c .before .before .before .before .before in
     let xs = b .before .before .args .digits .now in
     other-is _ (λ w. omega (arith, w .small, value-more xs (b .loop .i), value-grows xs (b .loop .i + 1) (length xs) (omega arith)))
-
-add-i : tie.Need-add-i Inv-loop μ-loop
-add-i c = omega arith
-
-loop-less : tie.Need-loop-less Inv-loop μ-loop
-loop-less c = omega arith
 
 loop-again : tie.Need-loop-again Inv-loop μ-loop
 loop-again c =
@@ -65,9 +50,6 @@ loop-again c =
       omega (arith, value-more xs (b .loop .i)),
       below-more _ _ (b .loop .inv .3) (record { at-least = omega arith; at-most = omega arith }),
     )
-
-cast-t12 : tie.Need-cast-t12 Inv-loop μ-loop
-cast-t12 c = omega arith
 
 returns-5 : tie.Need-returns-5 Inv-loop μ-loop
 returns-5 c =
@@ -85,15 +67,15 @@ read-number-spec =
     μ-loop
     returns
     loop-holds
-    shared-slice-read-digit
+    (λ c. omega arith)
     cast-digit
     returns-2
     returns-3
-    mul-value
-    add-value
+    (λ c. omega arith)
+    (λ c. omega arith)
     returns-4
-    add-i
-    loop-less
+    (λ c. omega arith)
+    (λ c. omega arith)
     loop-again
-    cast-t12
+    (λ c. omega arith)
     returns-5)

@@ -4,7 +4,7 @@ use Prim.Native.Nat.{_+_, _*_, _≤_}
 use borrow.Author.Needs.{needs}
 use native.Mathlib.Omega.{arith}
 use Rattle.rules.proofs.Job.{passed-is}
-use Rattle.network.proofs.draw.Ready.{ready}
+use Rattle.network.proofs.draw.Writable.{ready}
 use Rattle.network.proofs.draw.Steps.{sketch-refused, used-short, sketch-network}
 use Rattle.network.proofs.draw.draw.Statement.{statement}
 use Rattle.network.proofs.draw.draw.Tie as tie
@@ -20,32 +20,17 @@ entry c = ran c .before .before .before .before .before .before .before
 abbrev told : tie.Else1 → tie.After-tell
 told c = c .before .before
 
-abbrev wrote : tie.After-struct-known3 → tie.After-write
+abbrev wrote : tie.After-struct-known3 → tie.After-write-front
 wrote c = c .before .before .before .before
 
-abbrev passed : tie.After-write → tie.Else1
+abbrev passed : tie.After-write-front → tie.Else1
 passed c = c .before .before .before .before .before .before .before
 
-used-fits : (c : tie.After-write) → c .write .result .at + 6 * c .write .result .links ≤ 57680
+used-fits : (c : tie.After-write-front) → c .write-front .result .at + 6 * c .write-front .result .links ≤ 57680
 used-fits w =
     let e = passed w in
     used-short (entry (told e) .pre .0) (ran (told e) .run .ensures) (sym (told e .tell .ensures .number-is) ∙ e .if1 .left)
-    (w .before .before .before .before .before .before .header-of .ensures .width-is) (w .write .ensures)
-
-run-requires : tie.Need-run-requires
-run-requires c κs = search needs
-
-tell-requires : tie.Need-tell-requires
-tell-requires c κs = search needs
-
-nothing-requires : tie.Need-nothing-requires
-nothing-requires c κs = search needs
-
-same-length : tie.Need-same-length
-same-length c = search needs
-
-same-length-2 : tie.Need-same-length-2
-same-length-2 c = search needs
+    (w .before .before .before .before .before .before .header-of .ensures .width-is) (w .write-front .ensures)
 
 returns : tie.Need-returns
 returns c =
@@ -60,8 +45,8 @@ returns c =
 header-of-requires : tie.Need-header-of-requires
 header-of-requires c κs = passed-is _ (entry (told c) .pre .0) .head
 
-write-requires : tie.Need-write-requires
-write-requires c κs =
+write-front-requires : tie.Need-write-front-requires
+write-front-requires c κs =
     let e = c .before .before .before .before .before .before in
     let p = entry (told e) .pre in
     rw (c .before .before .before .before .before .header-of .ensures .width-is)
@@ -73,15 +58,6 @@ mul-used c = omega (arith, used-fits (c .before .before .before))
 add-used : tie.Need-add-used
 add-used c = omega (arith, used-fits (c .before .before .before .before))
 
-same-length-3 : tie.Need-same-length-3
-same-length-3 c = search needs
-
-same-length-4 : tie.Need-same-length-4
-same-length-4 c = search needs
-
-same-length-5 : tie.Need-same-length-5
-same-length-5 c = search needs
-
 returns-2 : tie.Need-returns-2
 returns-2 c =
     let w = wrote c in
@@ -91,24 +67,24 @@ returns-2 c =
       end = _;
       ran = r;
       wrote = sketch-network (entry (told e) .pre .0) r (sym (told e .tell .ensures .number-is) ∙ e .if1 .left)
-          (w .before .before .before .before .before .before .header-of .ensures .width-is) (w .write .ensures);
+          (w .before .before .before .before .before .before .header-of .ensures .width-is) (w .write-front .ensures);
     }
 
 pub draw-spec : {M : Type 1} → statement M
 draw-spec =
     tie.close
     (tie.spec
-    run-requires
-    tell-requires
-    nothing-requires
-    same-length
-    same-length-2
+    (λ c κs. search needs)
+    (λ c κs. search needs)
+    (λ c κs. search needs)
+    (λ c. search needs)
+    (λ c. search needs)
     returns
     header-of-requires
-    write-requires
+    write-front-requires
     mul-used
     add-used
-    same-length-3
-    same-length-4
-    same-length-5
+    (λ c. search needs)
+    (λ c. search needs)
+    (λ c. search needs)
     returns-2)

@@ -3,7 +3,7 @@ use Prim.Native.Nat.{_-_, _≤_}
 use mathlib.Core.Path.{_≡_}
 use native.Mathlib.Nat.{not-suc-le-zero}
 use native.Mathlib.Omega.{arith}
-use Rattle.distances.specs.Area.{Written}
+use Rattle.distances.specs.Area.{CellsWritten}
 use Rattle.distances.proofs.Area.{none-written}
 use Rattle.purge.specs.Left.{squeezed}
 use Rattle.purge.proofs.retire.Squeezed.{Lines, line-squeezed}
@@ -11,7 +11,7 @@ use Rattle.purge.proofs.retire.distances_left.Statement.{statement}
 use Rattle.purge.proofs.retire.distances_left.Tie as tie
 
 abbrev Inv-loop : tie.InvT-loop
-Inv-loop area₀ kept count t a₀ area a = (a ≤ t) × Written (Lines a t) (squeezed kept count area₀) area₀ area
+Inv-loop area₀ kept count t a₀ area a = (a ≤ t) × CellsWritten (Lines a t) (squeezed kept count area₀) area₀ area
 
 abbrev μ-loop : tie.MeasureT-loop
 μ-loop area₀ kept count t a₀ area a = t - a
@@ -23,12 +23,6 @@ line-left-requires : tie.Need-line-left-requires Inv-loop μ-loop
 line-left-requires c κs =
     let p = c .before .before .before .before .before .pre in
     (p .0, c .before .loop-test .taken, p .1, omega (arith, c .before .before .loop .inv .1 .size))
-
-add-a : tie.Need-add-a Inv-loop μ-loop
-add-a c = omega arith
-
-loop-less : tie.Need-loop-less Inv-loop μ-loop
-loop-less c = omega arith
 
 loop-again : tie.Need-loop-again Inv-loop μ-loop
 loop-again c =
@@ -52,8 +46,8 @@ distances-left-spec =
     μ-loop
     loop-holds
     line-left-requires
-    add-a
-    loop-less
+    (λ c. omega arith)
+    (λ c. omega arith)
     loop-again
     same-length
     returns)

@@ -14,35 +14,14 @@ Inv-loop kept count kinds left₀ a₀ left a = (a ≤ count) × KindsLeft kinds
 abbrev μ-loop : tie.MeasureT-loop
 μ-loop kept count kinds left₀ a₀ left a = count - a
 
-no-kinds-requires : tie.Need-no-kinds-requires Inv-loop μ-loop
-no-kinds-requires c κs = search needs
-
 loop-holds : tie.Need-loop-holds Inv-loop μ-loop
 loop-holds c = (omega arith, no-kind (c .no-kinds .ensures))
-
-mul-kind : tie.Need-mul-kind Inv-loop μ-loop
-mul-kind c = omega arith
-
-shared-slice-read-kind : tie.Need-shared-slice-read-kind Inv-loop μ-loop
-shared-slice-read-kind c = omega arith
 
 mul-kind-2 : tie.Need-mul-kind-2 Inv-loop μ-loop
 mul-kind-2 c = let l = c .before .before .loop in omega (arith, c .before .before .before .before .before .pre .within (l .a) (omega arith))
 
 array-copy-out-kind : tie.Need-array-copy-out-kind Inv-loop μ-loop
 array-copy-out-kind c = let l = c .before .before .loop in c .before .before .before .before .before .pre .within (l .a) (omega arith)
-
-mul-left : tie.Need-mul-left Inv-loop μ-loop
-mul-left c = omega arith
-
-array-set-from-left : tie.Need-array-set-from-left Inv-loop μ-loop
-array-set-from-left c = omega arith
-
-add-a : tie.Need-add-a Inv-loop μ-loop
-add-a c = omega arith
-
-loop-less : tie.Need-loop-less Inv-loop μ-loop
-loop-less c = omega arith
 
 loop-again : tie.Need-loop-again Inv-loop μ-loop
 loop-again c =
@@ -60,15 +39,15 @@ kinds-left-spec =
     (tie.spec
     Inv-loop
     μ-loop
-    no-kinds-requires
+    (λ c κs. search needs)
     loop-holds
-    mul-kind
-    shared-slice-read-kind
+    (λ c. omega arith)
+    (λ c. omega arith)
     mul-kind-2
     array-copy-out-kind
-    mul-left
-    array-set-from-left
-    add-a
-    loop-less
+    (λ c. omega arith)
+    (λ c. omega arith)
+    (λ c. omega arith)
+    (λ c. omega arith)
     loop-again
     returns)

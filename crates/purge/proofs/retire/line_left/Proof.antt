@@ -7,7 +7,7 @@ use native.Mathlib.Nat.{not-suc-le-zero}
 use native.Mathlib.Omega.{arith}
 use borrow.Author.Tests.{ltb-true, ltb-false}
 use lib.ListN.{getD}
-use Rattle.distances.specs.Area.{Written, Line}
+use Rattle.distances.specs.Area.{CellsWritten, Line}
 use Rattle.distances.proofs.Area.{none-written}
 use Rattle.purge.specs.Left.{squeezed}
 use Rattle.purge.proofs.retire.Squeezed.{distance-stored, zero-stored}
@@ -15,7 +15,7 @@ use Rattle.purge.proofs.retire.line_left.Statement.{statement}
 use Rattle.purge.proofs.retire.line_left.Tie as tie
 
 abbrev Inv-loop : tie.InvT-loop
-Inv-loop area₀ kept count t a b₀ area b = (b ≤ t) × Written (Line a b) (squeezed kept count area₀) area₀ area
+Inv-loop area₀ kept count t a b₀ area b = (b ≤ t) × CellsWritten (Line a b) (squeezed kept count area₀) area₀ area
 
 abbrev μ-loop : tie.MeasureT-loop
 μ-loop area₀ kept count t a b₀ area b = t - b
@@ -37,17 +37,11 @@ read c =
     let stays = ltb-true b (s .args .count) (c .if2 .taken) in
     record { stays = stays; line = s .pre .0 .within (s .args .a) (omega arith); column = s .pre .0 .within b stays }
 
-mul-area : tie.Need-mul-area Inv-loop μ-loop
-mul-area c = omega arith
-
 shared-slice-read-area : tie.Need-shared-slice-read-area Inv-loop μ-loop
 shared-slice-read-area c = let r = read (c .before) in omega arith
 
 mul-area-2 : tie.Need-mul-area-2 Inv-loop μ-loop
 mul-area-2 c = let r = read (c .before) in omega arith
-
-mul-area-3 : tie.Need-mul-area-3 Inv-loop μ-loop
-mul-area-3 c = omega arith
 
 shared-slice-read-area-2 : tie.Need-shared-slice-read-area-2 Inv-loop μ-loop
 shared-slice-read-area-2 c = let r = read (c .before .before) in omega arith
@@ -60,36 +54,6 @@ mul-area-4 c = let r = read (c .before .before) in omega arith
 
 slice-read-area : tie.Need-slice-read-area Inv-loop μ-loop
 slice-read-area c = let r = read (c .before .before .before) in omega arith
-
-mul-area-5 : tie.Need-mul-area-5 Inv-loop μ-loop
-mul-area-5 c = omega arith
-
-add-area-2 : tie.Need-add-area-2 Inv-loop μ-loop
-add-area-2 c = omega arith
-
-mul-area-6 : tie.Need-mul-area-6 Inv-loop μ-loop
-mul-area-6 c = omega arith
-
-slice-write-area : tie.Need-slice-write-area Inv-loop μ-loop
-slice-write-area c = omega arith
-
-mul-area-7 : tie.Need-mul-area-7 Inv-loop μ-loop
-mul-area-7 c = omega arith
-
-add-area-3 : tie.Need-add-area-3 Inv-loop μ-loop
-add-area-3 c = omega arith
-
-mul-area-8 : tie.Need-mul-area-8 Inv-loop μ-loop
-mul-area-8 c = omega arith
-
-slice-write-area-2 : tie.Need-slice-write-area-2 Inv-loop μ-loop
-slice-write-area-2 c = omega arith
-
-add-b : tie.Need-add-b Inv-loop μ-loop
-add-b c = omega arith
-
-loop-less : tie.Need-loop-less Inv-loop μ-loop
-loop-less c = omega arith
 
 loop-again : tie.Need-loop-again Inv-loop μ-loop
 loop-again c =
@@ -122,24 +86,24 @@ line-left-spec =
     Inv-loop
     μ-loop
     loop-holds
-    mul-area
+    (λ c. omega arith)
     shared-slice-read-area
     mul-area-2
-    mul-area-3
+    (λ c. omega arith)
     shared-slice-read-area-2
     add-area
     mul-area-4
     slice-read-area
-    mul-area-5
-    add-area-2
-    mul-area-6
-    slice-write-area
-    mul-area-7
-    add-area-3
-    mul-area-8
-    slice-write-area-2
-    add-b
-    loop-less
+    (λ c. omega arith)
+    (λ c. omega arith)
+    (λ c. omega arith)
+    (λ c. omega arith)
+    (λ c. omega arith)
+    (λ c. omega arith)
+    (λ c. omega arith)
+    (λ c. omega arith)
+    (λ c. omega arith)
+    (λ c. omega arith)
     loop-again
     same-length
     returns)

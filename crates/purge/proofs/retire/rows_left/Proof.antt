@@ -17,25 +17,10 @@ abbrev μ-loop : tie.MeasureT-loop
 loop-holds : tie.Need-loop-holds Inv-loop μ-loop
 loop-holds c = let p = c .before .before .pre in none-parted (p .0) (p .1) (p .3)
 
-mul-if2 : tie.Need-mul-if2 Inv-loop μ-loop
-mul-if2 c = omega arith
-
-shared-slice-read-if2 : tie.Need-shared-slice-read-if2 Inv-loop μ-loop
-shared-slice-read-if2 c = omega arith
-
-add-a : tie.Need-add-a Inv-loop μ-loop
-add-a c = omega arith
-
 to-the-end-requires : tie.Need-to-the-end-requires Inv-loop μ-loop
 to-the-end-requires c κs =
     let p = c .before .before .before .loop .inv in
     (omega (arith, few-stay p), omega arith, omega (arith, same-size p))
-
-add-i : tie.Need-add-i Inv-loop μ-loop
-add-i c = omega arith
-
-loop-less : tie.Need-loop-less Inv-loop μ-loop
-loop-less c = omega arith
 
 loop-again : tie.Need-loop-again Inv-loop μ-loop
 loop-again c =
@@ -60,12 +45,12 @@ rows-left-spec =
     Inv-loop
     μ-loop
     loop-holds
-    mul-if2
-    shared-slice-read-if2
-    add-a
+    (λ c. omega arith)
+    (λ c. omega arith)
+    (λ c. omega arith)
     to-the-end-requires
-    add-i
-    loop-less
+    (λ c. omega arith)
+    (λ c. omega arith)
     loop-again
     same-length
     returns)

@@ -7,10 +7,10 @@ use lib.ListN.{length, length-set}
 use Rattle.rules.specs.Job.{Bytes}
 use Rattle.memory.specs.Placed.{placed}
 use Rattle.memory.proofs.Placed.{length-placed}
-use Rattle.purge.specs.Left.{rowsFrom}
 use Rattle.purge.proofs.retire.Moved.{moved, moved-none, moved-more, row-behind}
 use Rattle.purge.proofs.retire.to_the_end.Statement.{statement}
 use Rattle.purge.proofs.retire.to_the_end.Tie as tie
+use Rattle.types.specs.State.{rowsFrom}
 
 abbrev Inv-loop : tie.InvT-loop
 Inv-loop states₀ made i end row c₀ states c = (64 * i ≤ c) × (c ≤ end) × (length states ≡ length states₀) × (states ≡ moved states₀ i c)
@@ -18,46 +18,13 @@ Inv-loop states₀ made i end row c₀ states c = (64 * i ≤ c) × (c ≤ end) 
 abbrev μ-loop : tie.MeasureT-loop
 μ-loop states₀ made i end row c₀ states c = end - c
 
-mul-end : tie.Need-mul-end Inv-loop μ-loop
-mul-end c = omega arith
-
-sub-end : tie.Need-sub-end Inv-loop μ-loop
-sub-end c = omega arith
-
-row-at-requires : tie.Need-row-at-requires Inv-loop μ-loop
-row-at-requires c κs = omega arith
-
-mul-c : tie.Need-mul-c Inv-loop μ-loop
-mul-c c = omega arith
-
 loop-holds : tie.Need-loop-holds Inv-loop μ-loop
 loop-holds c = (omega arith, omega arith, refl, moved-none _ _)
-
-add-states : tie.Need-add-states Inv-loop μ-loop
-add-states c = omega arith
-
-slice-read-states : tie.Need-slice-read-states Inv-loop μ-loop
-slice-read-states c = omega arith
-
-slice-write-states : tie.Need-slice-write-states Inv-loop μ-loop
-slice-write-states c = omega arith
-
-add-c : tie.Need-add-c Inv-loop μ-loop
-add-c c = omega arith
-
-loop-less : tie.Need-loop-less Inv-loop μ-loop
-loop-less c = omega arith
 
 loop-again : tie.Need-loop-again Inv-loop μ-loop
 loop-again c =
     let l = c .before .before .loop in
     (omega arith, omega arith, simp length-set (l .inv .2), moved-more _ _ (l .c) (l .states) (omega arith) (omega arith) (l .inv .3))
-
-slice-aggregate-copy : tie.Need-slice-aggregate-copy Inv-loop μ-loop
-slice-aggregate-copy c = omega arith
-
-copy-requires : tie.Need-copy-requires Inv-loop μ-loop
-copy-requires c κs = omega arith
 
 same-length : tie.Need-same-length Inv-loop μ-loop
 same-length c =
@@ -80,18 +47,18 @@ to-the-end-spec =
     (tie.spec
     Inv-loop
     μ-loop
-    mul-end
-    sub-end
-    row-at-requires
-    mul-c
+    (λ c. omega arith)
+    (λ c. omega arith)
+    (λ c κs. omega arith)
+    (λ c. omega arith)
     loop-holds
-    add-states
-    slice-read-states
-    slice-write-states
-    add-c
-    loop-less
+    (λ c. omega arith)
+    (λ c. omega arith)
+    (λ c. omega arith)
+    (λ c. omega arith)
+    (λ c. omega arith)
     loop-again
-    slice-aggregate-copy
-    copy-requires
+    (λ c. omega arith)
+    (λ c κs. omega arith)
     same-length
     returns)

@@ -25,12 +25,6 @@ some-needed (Sampled rows first) links ne = absurd (ne refl)
 some-needed (Inferred round) links ne =
     same-tests (ltb links 3) (leb links 2) (λ t. le-leb links 2 (omega (arith, ltb-true links 3 t))) (λ t. lt-ltb links 3 (omega (arith, leb-true links 2 t)))
 
-needed-requires : tie.Need-needed-requires
-needed-requires c κs = search needs
-
-link-count-requires : tie.Need-link-count-requires
-link-count-requires c κs = search needs
-
 returns : tie.Need-returns
 returns c =
     let n = c .before .before .needed in
@@ -44,4 +38,4 @@ returns-2 c =
     rw (c .if1 .left) (none-needed (a .kind .origin) (markCount (a .area .now) (a .t) (a .i)) (omega (arith, c .if1 .left, n .ensures)))
 
 pub obsolete-spec : {M : Type 1} → statement M
-obsolete-spec = tie.close (tie.spec needed-requires link-count-requires returns returns-2)
+obsolete-spec = tie.close (tie.spec (λ c κs. search needs) (λ c κs. search needs) returns returns-2)

@@ -16,15 +16,6 @@ abbrev μ-loop : tie.MeasureT-loop
 loop-holds : tie.Need-loop-holds Inv-loop μ-loop
 loop-holds c = passed-none (omega arith) refl
 
-mul-kind : tie.Need-mul-kind Inv-loop μ-loop
-mul-kind c = omega arith
-
-array-copy-out-kind : tie.Need-array-copy-out-kind Inv-loop μ-loop
-array-copy-out-kind c = omega arith
-
-obsolete-requires : tie.Need-obsolete-requires Inv-loop μ-loop
-obsolete-requires c κs = omega arith
-
 mul-kept : tie.Need-mul-kept Inv-loop μ-loop
 mul-kept c = omega (arith, count-few (c .before .before .before .before .loop .inv))
 
@@ -33,12 +24,6 @@ array-write-kept c = omega (arith, count-few (c .before .before .before .before 
 
 add-count : tie.Need-add-count Inv-loop μ-loop
 add-count c = omega (arith, count-few (c .before .before .before .before .loop .inv))
-
-add-i : tie.Need-add-i Inv-loop μ-loop
-add-i c = omega arith
-
-loop-less : tie.Need-loop-less Inv-loop μ-loop
-loop-less c = omega arith
 
 loop-again : tie.Need-loop-again Inv-loop μ-loop
 loop-again c =
@@ -60,13 +45,13 @@ survivors-spec =
     Inv-loop
     μ-loop
     loop-holds
-    mul-kind
-    array-copy-out-kind
-    obsolete-requires
+    (λ c. omega arith)
+    (λ c. omega arith)
+    (λ c κs. omega arith)
     mul-kept
     array-write-kept
     add-count
-    add-i
-    loop-less
+    (λ c. omega arith)
+    (λ c. omega arith)
     loop-again
     returns)

@@ -17,24 +17,12 @@ Inv-loop area t i n₀ j₀ n j = (i < j) × (j ≤ t) × (n ≤ j) × (n ≡ le
 abbrev μ-loop : tie.MeasureT-loop
 μ-loop area t i n₀ j₀ n j = t - j
 
-add-j : tie.Need-add-j Inv-loop μ-loop
-add-j c = omega arith
-
 loop-holds : tie.Need-loop-holds Inv-loop μ-loop
 loop-holds c = let a = c .before .args in
     (omega arith, omega arith, omega arith, sym (lower (a .area .now) (a .i) _ (omega arith)))
 
 linked-requires : tie.Need-linked-requires Inv-loop μ-loop
 linked-requires c κs = (omega arith, omega arith, omega arith)
-
-add-n : tie.Need-add-n Inv-loop μ-loop
-add-n c = omega arith
-
-add-j-2 : tie.Need-add-j-2 Inv-loop μ-loop
-add-j-2 c = omega arith
-
-loop-less : tie.Need-loop-less Inv-loop μ-loop
-loop-less c = omega arith
 
 loop-again : tie.Need-loop-again Inv-loop μ-loop
 loop-again c =
@@ -60,11 +48,11 @@ count-line-spec =
     (tie.spec
     Inv-loop
     μ-loop
-    add-j
+    (λ c. omega arith)
     loop-holds
     linked-requires
-    add-n
-    add-j-2
-    loop-less
+    (λ c. omega arith)
+    (λ c. omega arith)
+    (λ c. omega arith)
     loop-again
     returns)

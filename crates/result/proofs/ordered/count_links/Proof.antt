@@ -27,12 +27,6 @@ add-n c =
     let a = c .before .before .before .before .args in
     omega (arith, line-short (a .area .now) (a .t) (c .before .before .loop .i), c .count-line .ensures)
 
-add-i : tie.Need-add-i Inv-loop μ-loop
-add-i c = omega arith
-
-loop-less : tie.Need-loop-less Inv-loop μ-loop
-loop-less c = omega arith
-
 loop-again : tie.Need-loop-again Inv-loop μ-loop
 loop-again c =
     let l = c .before .before in
@@ -55,7 +49,7 @@ count-links-spec =
     loop-holds
     count-line-requires
     add-n
-    add-i
-    loop-less
+    (λ c. omega arith)
+    (λ c. omega arith)
     loop-again
     returns)

@@ -30,12 +30,6 @@ returns c =
       linked = λ h. higher (a .area .now) (a .i) (l .loop .j) true (omega arith) (sym (c .before .linked .ensures) ∙ c .if1 .taken);
     }
 
-add-j : tie.Need-add-j Inv-loop μ-loop
-add-j c = omega arith
-
-loop-less : tie.Need-loop-less Inv-loop μ-loop
-loop-less c = omega arith
-
 loop-again : tie.Need-loop-again Inv-loop μ-loop
 loop-again c =
     let l = c .before .before .before in
@@ -58,7 +52,7 @@ next-in-line-spec =
     loop-holds
     linked-requires
     returns
-    add-j
-    loop-less
+    (λ c. omega arith)
+    (λ c. omega arith)
     loop-again
     returns-2)

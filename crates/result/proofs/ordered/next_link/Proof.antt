@@ -32,12 +32,6 @@ follows c =
     line-follows (s .args .area .now) (s .args .t) (l .loop .i) (l .loop .inv .0)
     (omega (arith, at-end c, l .before .next-in-line .ensures .behind, first s .place, s .pre .2 .within))
 
-cast-i : tie.Need-cast-i Inv-loop μ-loop
-cast-i c = search needs
-
-cast-next-in-line : tie.Need-cast-next-in-line Inv-loop μ-loop
-cast-next-in-line c = search needs
-
 add-next-in-line : tie.Need-add-next-in-line Inv-loop μ-loop
 add-next-in-line c = let s = c .before .before .before in omega (arith, first s .inside, s .pre .1)
 
@@ -70,24 +64,6 @@ loop-again c =
     let a = entry l .args in
     (follows (c .before), rw (line-end (a .area .now) (a .t) (l .loop .i), at-end (c .before)) at (c .next-in-line2 .ensures))
 
-cast-t10 : tie.Need-cast-t10 Inv-loop μ-loop
-cast-t10 c = omega arith
-
-cast-t11 : tie.Need-cast-t11 Inv-loop μ-loop
-cast-t11 c = omega arith
-
-mul-t6 : tie.Need-mul-t6 Inv-loop μ-loop
-mul-t6 c = omega arith
-
-add-t7 : tie.Need-add-t7 Inv-loop μ-loop
-add-t7 c = omega arith
-
-mul-t12 : tie.Need-mul-t12 Inv-loop μ-loop
-mul-t12 c = omega arith
-
-shared-slice-read-t14 : tie.Need-shared-slice-read-t14 Inv-loop μ-loop
-shared-slice-read-t14 c = omega arith
-
 returns : tie.Need-returns Inv-loop μ-loop
 returns c =
     let l = c .before .before in
@@ -107,8 +83,8 @@ next-link-spec =
     (tie.spec
     Inv-loop
     μ-loop
-    cast-i
-    cast-next-in-line
+    (λ c. search needs)
+    (λ c. search needs)
     add-next-in-line
     next-in-line-requires
     loop-holds
@@ -117,10 +93,10 @@ next-link-spec =
     next-in-line-requires-2
     loop-less
     loop-again
-    cast-t10
-    cast-t11
-    mul-t6
-    add-t7
-    mul-t12
-    shared-slice-read-t14
+    (λ c. omega arith)
+    (λ c. omega arith)
+    (λ c. omega arith)
+    (λ c. omega arith)
+    (λ c. omega arith)
+    (λ c. omega arith)
     returns)

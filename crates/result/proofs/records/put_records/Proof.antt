@@ -6,7 +6,7 @@ use native.Mathlib.Omega.{arith}
 use lib.ListN.{length}
 use Rattle.memory.specs.Placed.{placed}
 use Rattle.result.specs.Records.{recordsOf}
-use Rattle.result.proofs.records.Written.{records-none, records-more}
+use Rattle.result.proofs.records.RecordBytes.{records-none, records-more}
 use Rattle.result.proofs.records.put_records.Statement.{statement}
 use Rattle.result.proofs.records.put_records.Tie as tie
 
@@ -19,29 +19,11 @@ abbrev μ-loop : tie.MeasureT-loop
 loop-holds : tie.Need-loop-holds Inv-loop μ-loop
 loop-holds c = let a = c .before .args in (omega arith, refl, records-none (a .t3) (a .s) (a .out .now) (a .at))
 
-mul-put-record : tie.Need-mul-put-record Inv-loop μ-loop
-mul-put-record c = omega arith
-
-array-copy-out-put-record : tie.Need-array-copy-out-put-record Inv-loop μ-loop
-array-copy-out-put-record c = omega arith
-
-mul-put-record-2 : tie.Need-mul-put-record-2 Inv-loop μ-loop
-mul-put-record-2 c = omega arith
-
-add-put-record : tie.Need-add-put-record Inv-loop μ-loop
-add-put-record c = omega arith
-
 put-record-requires : tie.Need-put-record-requires Inv-loop μ-loop
 put-record-requires c κs =
     let j = c .before .before in
     let l = j .before .before in
     (l .before .before .pre .1 (l .loop .k) (j .before .loop-test .taken), ⊎-elim (λ w. omega arith) (λ w. omega arith) (j .if1 .came), omega arith)
-
-add-k : tie.Need-add-k Inv-loop μ-loop
-add-k c = omega arith
-
-loop-less : tie.Need-loop-less Inv-loop μ-loop
-loop-less c = omega arith
 
 loop-again : tie.Need-loop-again Inv-loop μ-loop
 loop-again c =
@@ -54,9 +36,6 @@ loop-again c =
       omega arith,
       records-more (a .t3) (a .s) (a .out .now) (a .at) (l .loop .k) (j .if1 .index) (omega arith) place (l .loop .inv .2) (p .put-record .ensures),
     )
-
-same-length : tie.Need-same-length Inv-loop μ-loop
-same-length c = omega arith
 
 returns : tie.Need-returns Inv-loop μ-loop
 returns c =
@@ -71,13 +50,13 @@ put-records-spec =
     Inv-loop
     μ-loop
     loop-holds
-    mul-put-record
-    array-copy-out-put-record
-    mul-put-record-2
-    add-put-record
+    (λ c. omega arith)
+    (λ c. omega arith)
+    (λ c. omega arith)
+    (λ c. omega arith)
     put-record-requires
-    add-k
-    loop-less
+    (λ c. omega arith)
+    (λ c. omega arith)
     loop-again
-    same-length
+    (λ c. omega arith)
     returns)

@@ -23,27 +23,6 @@ loop-holds : tie.Need-loop-holds Inv-loop μ-loop
 unfolding sum
 loop-holds c = (omega arith, omega arith, refl)
 
-mul-kind : tie.Need-mul-kind Inv-loop μ-loop
-mul-kind c = omega arith
-
-array-copy-out-kind : tie.Need-array-copy-out-kind Inv-loop μ-loop
-array-copy-out-kind c = omega arith
-
-enum-told : tie.Need-enum-told Inv-loop μ-loop
-enum-told c = search needs
-
-add-sampled : tie.Need-add-sampled Inv-loop μ-loop
-add-sampled c = omega arith
-
-enum-told-2 : tie.Need-enum-told-2 Inv-loop μ-loop
-enum-told-2 c = search needs
-
-add-k : tie.Need-add-k Inv-loop μ-loop
-add-k c = omega arith
-
-loop-less : tie.Need-loop-less Inv-loop μ-loop
-loop-less c = omega arith
-
 loop-again : tie.Need-loop-again Inv-loop μ-loop
 loop-again c =
     let l = c .before .before .before in
@@ -68,12 +47,12 @@ sampled-spec =
     Inv-loop
     μ-loop
     loop-holds
-    mul-kind
-    array-copy-out-kind
-    enum-told
-    add-sampled
-    enum-told-2
-    add-k
-    loop-less
+    (λ c. omega arith)
+    (λ c. omega arith)
+    (λ c. search needs)
+    (λ c. omega arith)
+    (λ c. search needs)
+    (λ c. omega arith)
+    (λ c. omega arith)
     loop-again
     returns)

@@ -25,18 +25,6 @@ abbrev μ-loop : tie.MeasureT-loop
 loop-holds : tie.Need-loop-holds Inv-loop μ-loop
 loop-holds c = record { size = omega arith; read = omega arith; is = sorted-none _ }
 
-row-at-requires : tie.Need-row-at-requires Inv-loop μ-loop
-row-at-requires c κs = omega arith
-
-insert-requires : tie.Need-insert-requires Inv-loop μ-loop
-insert-requires c κs = omega arith
-
-add-k : tie.Need-add-k Inv-loop μ-loop
-add-k c = omega arith
-
-loop-less : tie.Need-loop-less Inv-loop μ-loop
-loop-less c = omega arith
-
 loop-again : tie.Need-loop-again Inv-loop μ-loop
 loop-again c =
     let put = c .before .before in
@@ -50,9 +38,6 @@ loop-again c =
           ∙ sorted-more (a .rows .now) (l .loop .k) (omega arith) (l .loop .rows) _ (l .loop .inv .is) (read .row-at .ensures);
     }
 
-same-length : tie.Need-same-length Inv-loop μ-loop
-same-length c = omega arith
-
 returns : tie.Need-returns Inv-loop μ-loop
 returns c =
     let l = c .before .loop in
@@ -65,10 +50,10 @@ ascending-spec =
     Inv-loop
     μ-loop
     loop-holds
-    row-at-requires
-    insert-requires
-    add-k
-    loop-less
+    (λ c κs. omega arith)
+    (λ c κs. omega arith)
+    (λ c. omega arith)
+    (λ c. omega arith)
     loop-again
-    same-length
+    (λ c. omega arith)
     returns)

@@ -17,29 +17,8 @@ Inv-loop rows i row at bytes c₀ c = (c ≤ 64) × ((k : ℕ) → k < c → get
 abbrev μ-loop : tie.MeasureT-loop
 μ-loop rows i row at bytes c₀ c = 64 - c
 
-mul-at : tie.Need-mul-at Inv-loop μ-loop
-mul-at c = omega arith
-
 loop-holds : tie.Need-loop-holds Inv-loop μ-loop
 loop-holds c = (omega arith, below-none _)
-
-add-if1 : tie.Need-add-if1 Inv-loop μ-loop
-add-if1 c = omega arith
-
-shared-slice-read-if1 : tie.Need-shared-slice-read-if1 Inv-loop μ-loop
-shared-slice-read-if1 c = omega arith
-
-shared-slice-read-if1-2 : tie.Need-shared-slice-read-if1-2 Inv-loop μ-loop
-shared-slice-read-if1-2 c = omega arith
-
-add-result : tie.Need-add-result Inv-loop μ-loop
-add-result c = omega arith
-
-shared-slice-read-result : tie.Need-shared-slice-read-result Inv-loop μ-loop
-shared-slice-read-result c = omega arith
-
-shared-slice-read-result-2 : tie.Need-shared-slice-read-result-2 Inv-loop μ-loop
-shared-slice-read-result-2 c = omega arith
 
 returns : tie.Need-returns Inv-loop μ-loop
 returns c =
@@ -51,12 +30,6 @@ returns c =
     let n = length-storedAt (a .rows .now) (a .i) (omega arith) in
     sym (differ-at _ (a .row .now) k (omega arith) (omega arith) (λ j h. at j (omega arith) ∙ b .loop .inv .1 j h) (λ e. c .before .before .if1 .taken (sym (at k (omega arith)) ∙ e))
     ∙ ap (λ (x : ℕ). ltb x (getD (a .row .now) k 0)) (at k (omega arith)))
-
-add-c : tie.Need-add-c Inv-loop μ-loop
-add-c c = omega arith
-
-loop-less : tie.Need-loop-less Inv-loop μ-loop
-loop-less c = omega arith
 
 loop-again : tie.Need-loop-again Inv-loop μ-loop
 loop-again c = (omega arith, below-more _ _ (c .before .before .before .before .loop .inv .1) (c .if1 .left))
@@ -73,16 +46,16 @@ before-spec =
     (tie.spec
     Inv-loop
     μ-loop
-    mul-at
+    (λ c. omega arith)
     loop-holds
-    add-if1
-    shared-slice-read-if1
-    shared-slice-read-if1-2
-    add-result
-    shared-slice-read-result
-    shared-slice-read-result-2
+    (λ c. omega arith)
+    (λ c. omega arith)
+    (λ c. omega arith)
+    (λ c. omega arith)
+    (λ c. omega arith)
+    (λ c. omega arith)
     returns
-    add-c
-    loop-less
+    (λ c. omega arith)
+    (λ c. omega arith)
     loop-again
     returns-2)

@@ -5,20 +5,14 @@ use Rattle.round.proofs.ascending.Inserted.{within, moved-with-row}
 use Rattle.round.proofs.ascending.insert.Statement.{statement}
 use Rattle.round.proofs.ascending.insert.Tie as tie
 
-place-requires : tie.Need-place-requires
-place-requires c κs = search needs
-
 move-up-requires : tie.Need-move-up-requires
-move-up-requires c κs = omega (arith, within _ _ _ (c .before .place .ensures))
+move-up-requires c κs = omega (arith, within _ _ _ (c .before .place-of-row .ensures))
 
 mul-copy : tie.Need-mul-copy
-mul-copy c = let p = c .before .before .before .before .before .before in omega (arith, within _ _ _ (p .place .ensures))
+mul-copy c = let p = c .before .before .before .before .before .before in omega (arith, within _ _ _ (p .place-of-row .ensures))
 
 copy-requires : tie.Need-copy-requires
-copy-requires c κs = let p = c .before .before .before .before .before .before in omega (arith, within _ _ _ (p .place .ensures))
-
-same-length : tie.Need-same-length
-same-length c = search needs
+copy-requires c κs = let p = c .before .before .before .before .before .before in omega (arith, within _ _ _ (p .place-of-row .ensures))
 
 returns : tie.Need-returns
 returns c =
@@ -26,9 +20,9 @@ returns c =
     let moved = copied .before .before .before .before .before in
     let p = moved .before .before in
     let s = p .before .before .before in
-    moved-with-row (s .args .rows .now) (s .args .row .now) _ _ (s .args .count) (p .place .result) (s .pre .1) (omega arith) (s .pre .0)
-    (p .place .ensures) (moved .move-up .ensures) (copied .copy .ensures)
+    moved-with-row (s .args .rows .now) (s .args .row .now) _ _ (s .args .count) (p .place-of-row .result) (s .pre .1) (omega arith) (s .pre .0)
+    (p .place-of-row .ensures) (moved .move-up .ensures) (copied .copy .ensures)
 
 pub insert-spec : {M : Type 1} → statement M
 insert-spec =
-    tie.close (tie.spec place-requires move-up-requires mul-copy copy-requires same-length returns)
+    tie.close (tie.spec (λ c κs. search needs) move-up-requires mul-copy copy-requires (λ c. search needs) returns)

@@ -4,10 +4,10 @@ use Prim.Native.Nat.{_+_, _*_, _-_, _≤_}
 use native.Mathlib.Omega.{arith}
 use lib.ListN.{length}
 use Rattle.memory.specs.Placed.{placed}
-use Rattle.round.specs.Sorted.{rowsFrom}
 use Rattle.round.proofs.ascending.Inserted.{moved-none, moved-more}
 use Rattle.round.proofs.ascending.move_up.Statement.{statement}
 use Rattle.round.proofs.ascending.move_up.Tie as tie
+use Rattle.types.specs.State.{rowsFrom}
 
 abbrev Inv-loop : tie.InvT-loop
 Inv-loop rows₀ from count i₀ rows i =
@@ -18,27 +18,6 @@ abbrev μ-loop : tie.MeasureT-loop
 
 loop-holds : tie.Need-loop-holds Inv-loop μ-loop
 loop-holds c = (omega arith, omega arith, omega arith, moved-none _ _)
-
-sub-i : tie.Need-sub-i Inv-loop μ-loop
-sub-i c = omega arith
-
-row-at-requires : tie.Need-row-at-requires Inv-loop μ-loop
-row-at-requires c κs = omega arith
-
-slice-aggregate-copy : tie.Need-slice-aggregate-copy Inv-loop μ-loop
-slice-aggregate-copy c = omega arith
-
-mul-copy : tie.Need-mul-copy Inv-loop μ-loop
-mul-copy c = omega arith
-
-add-copy : tie.Need-add-copy Inv-loop μ-loop
-add-copy c = omega arith
-
-copy-requires : tie.Need-copy-requires Inv-loop μ-loop
-copy-requires c κs = omega arith
-
-loop-less : tie.Need-loop-less Inv-loop μ-loop
-loop-less c = omega arith
 
 loop-again : tie.Need-loop-again Inv-loop μ-loop
 loop-again c =
@@ -53,9 +32,6 @@ loop-again c =
           (read .row-at .ensures) (copied .copy .ensures),
     )
 
-same-length : tie.Need-same-length Inv-loop μ-loop
-same-length c = omega arith
-
 returns : tie.Need-returns Inv-loop μ-loop
 returns c =
     let l = c .before in
@@ -69,13 +45,13 @@ move-up-spec =
     Inv-loop
     μ-loop
     loop-holds
-    sub-i
-    row-at-requires
-    slice-aggregate-copy
-    mul-copy
-    add-copy
-    copy-requires
-    loop-less
+    (λ c. omega arith)
+    (λ c κs. omega arith)
+    (λ c. omega arith)
+    (λ c. omega arith)
+    (λ c. omega arith)
+    (λ c κs. omega arith)
+    (λ c. omega arith)
     loop-again
-    same-length
+    (λ c. omega arith)
     returns)

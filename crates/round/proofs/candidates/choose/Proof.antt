@@ -44,28 +44,13 @@ all-swept : (c : tie.After-sweep2) → let f = first c in
     (c .sweep2 .last .1 .1 .1 .1 .1 .1 .1 .0) (c .sweep2 .result)
 all-swept c = rw (c .before .before .before .before .before .for-all .ensures) at (c .sweep2 .ensures .1)
 
--- There are as many words as before.
-kept-both : (c : tie.After-sweep2) → length (c .sweep2 .last .1 .1 .1 .1 .1 .0) ≡ length (start (first c) .args .words .now)
-kept-both c = c .sweep2 .ensures .0 .words-size ∙ first c .sweep .ensures .0 .words-size
+-- There are as many mismatches as before.
+kept-both : (c : tie.After-sweep2) → length (c .sweep2 .last .1 .1 .1 .1 .1 .0) ≡ length (start (first c) .args .mismatches .now)
+kept-both c = c .sweep2 .ensures .0 .mismatches-size ∙ first c .sweep .ensures .0 .mismatches-size
 
 -- There is a candidate.
 not-lambda : (c : tie.After-sweep2) → first c .sweep .result .below ≢ 128001
 not-lambda c e = not-none c .if1 .left (e ∙ sym (lambda-from (first c)))
-
-guess-all-requires : tie.Need-guess-all-requires
-guess-all-requires c κs = search needs
-
-for-lambda-requires : tie.Need-for-lambda-requires
-for-lambda-requires c κs = search needs
-
-slice-aggregate-sweep : tie.Need-slice-aggregate-sweep
-slice-aggregate-sweep c = search needs
-
-slice-aggregate-sweep-2 : tie.Need-slice-aggregate-sweep-2
-slice-aggregate-sweep-2 c = search needs
-
-slice-aggregate-sweep-3 : tie.Need-slice-aggregate-sweep-3
-slice-aggregate-sweep-3 c = search needs
 
 sweep-requires : tie.Need-sweep-requires
 sweep-requires c κs =
@@ -74,23 +59,20 @@ sweep-requires c κs =
       record {
         weighed = p .0 .weighed;
         follows = p .0 .follows;
-        worded = p .1;
+        remembered = p .1;
         current = p .0 .current;
         room = omega (arith, p .0 .few);
         lie = p .0 .lie;
         cells = p .0 .cells;
-        found-size = simp length-replicate;
+        gathered-size = simp length-replicate;
         guesses-size = search needs;
         low = omega arith;
       },
       floors-first,
     )
 
-with-rows-requires : tie.Need-with-rows-requires
-with-rows-requires c κs = search needs
-
 same-length : tie.Need-same-length
-same-length c = c .before .before .before .before .before .before .before .before .before .sweep .ensures .0 .words-size
+same-length c = c .before .before .before .before .before .before .before .before .before .sweep .ensures .0 .mismatches-size
 
 returns : tie.Need-returns
 returns c =
@@ -105,18 +87,6 @@ add-for-all c = let s = c .before .before .before .before .before .before .befor
 add-for-all-2 : tie.Need-add-for-all-2
 add-for-all-2 c = let s = c .before .before .before .before .before .before .before .before .before in omega (arith, swept s .no-higher, start s .pre .0 .small)
 
-for-all-requires : tie.Need-for-all-requires
-for-all-requires c κs = search needs
-
-slice-aggregate-sweep-4 : tie.Need-slice-aggregate-sweep-4
-slice-aggregate-sweep-4 c = search needs
-
-slice-aggregate-sweep-5 : tie.Need-slice-aggregate-sweep-5
-slice-aggregate-sweep-5 c = search needs
-
-slice-aggregate-sweep-6 : tie.Need-slice-aggregate-sweep-6
-slice-aggregate-sweep-6 c = search needs
-
 sweep-requires-2 : tie.Need-sweep-requires-2
 sweep-requires-2 c κs =
     let s = c .before .before .before .before .before .before .before .before .before .before .before .before .before .before in
@@ -125,20 +95,17 @@ sweep-requires-2 c κs =
       record {
         weighed = p .weighed;
         follows = p .follows;
-        worded = rw (s .before .before .before .before .before .for-lambda .ensures) at (s .sweep .ensures .0 .worded);
+        remembered = rw (s .before .before .before .before .before .for-lambda .ensures) at (s .sweep .ensures .0 .remembered);
         current = p .current;
         room = omega (arith, p .few);
         lie = p .lie;
         cells = p .cells;
-        found-size = swept s .size ∙ simp length-replicate;
+        gathered-size = swept s .size ∙ simp length-replicate;
         guesses-size = s .sweep .ensures .0 .guesses-size;
         low = omega (arith, swept s .no-higher, p .small);
       },
       rw (s .before .before .before .before .before .for-lambda .ensures) at (s .sweep .ensures .2),
     )
-
-none-fits-requires : tie.Need-none-fits-requires
-none-fits-requires c κs = search needs
 
 same-length-2 : tie.Need-same-length-2
 same-length-2 c = kept-both (c .before .before .before .before .before .before .before)
@@ -148,15 +115,6 @@ returns-2 c =
     let s = c .before .before .before .before .before .before .before in
     let f = first s in
     fresh-full (swept f) (start f .args .epsilon) (not-lambda s) (all-swept s) (start f .pre .0 .few) (c .before .if2 .taken) (c .none-fits .ensures)
-
-slice-aggregate-ascending : tie.Need-slice-aggregate-ascending
-slice-aggregate-ascending c = search needs
-
-ascending-requires : tie.Need-ascending-requires
-ascending-requires c κs = search needs
-
-with-rows-requires-2 : tie.Need-with-rows-requires-2
-with-rows-requires-2 c κs = search needs
 
 same-length-3 : tie.Need-same-length-3
 same-length-3 c = kept-both (c .before .before .before .before .before .before .before .before .before .before)
@@ -172,27 +130,27 @@ pub choose-spec : {M : Type 1} → statement M
 choose-spec =
     tie.close
     (tie.spec
-    guess-all-requires
-    for-lambda-requires
-    slice-aggregate-sweep
-    slice-aggregate-sweep-2
-    slice-aggregate-sweep-3
+    (λ c κs. search needs)
+    (λ c κs. search needs)
+    (λ c. search needs)
+    (λ c. search needs)
+    (λ c. search needs)
     sweep-requires
-    with-rows-requires
+    (λ c κs. search needs)
     same-length
     returns
     add-for-all
     add-for-all-2
-    for-all-requires
-    slice-aggregate-sweep-4
-    slice-aggregate-sweep-5
-    slice-aggregate-sweep-6
+    (λ c κs. search needs)
+    (λ c. search needs)
+    (λ c. search needs)
+    (λ c. search needs)
     sweep-requires-2
-    none-fits-requires
+    (λ c κs. search needs)
     same-length-2
     returns-2
-    slice-aggregate-ascending
-    ascending-requires
-    with-rows-requires-2
+    (λ c. search needs)
+    (λ c κs. search needs)
+    (λ c κs. search needs)
     same-length-3
     returns-3)

@@ -19,29 +19,11 @@ few c =
     let a = c .before .before .before .before .args in
     omega (arith, c .link-count .ensures, count-le i (marked (a .area .now) i), c .before .loop-test .taken)
 
-loop-holds : tie.Need-loop-holds Inv-loop μ-loop
-loop-holds c = omega arith
-
-link-count-requires : tie.Need-link-count-requires Inv-loop μ-loop
-link-count-requires c κs = omega arith
-
 add-links : tie.Need-add-links Inv-loop μ-loop
 add-links c = omega (arith, few c)
 
-add-i : tie.Need-add-i Inv-loop μ-loop
-add-i c = omega arith
-
-loop-less : tie.Need-loop-less Inv-loop μ-loop
-loop-less c = omega arith
-
 loop-again : tie.Need-loop-again Inv-loop μ-loop
 loop-again c = omega (arith, few c)
-
-mul-result : tie.Need-mul-result Inv-loop μ-loop
-mul-result c = omega arith
-
-returns : tie.Need-returns Inv-loop μ-loop
-returns c = omega arith
 
 pub many-links-spec : {M : Type 1} → statement M
 many-links-spec =
@@ -49,11 +31,11 @@ many-links-spec =
     (tie.spec
     Inv-loop
     μ-loop
-    loop-holds
-    link-count-requires
+    (λ c. omega arith)
+    (λ c κs. omega arith)
     add-links
-    add-i
-    loop-less
+    (λ c. omega arith)
+    (λ c. omega arith)
     loop-again
-    mul-result
-    returns)
+    (λ c. omega arith)
+    (λ c. omega arith))

@@ -33,32 +33,8 @@ collapsed c = rw (states-cleared c .clear-bytes .ensures) at (c .collapse .ensur
 not-many : (c : tie.At-match-keys2) → tooMany (jobRows (job (c .before .before .before))) ≡ false
 not-many c = few-told _ (c .before .before .before .collapse .ensures .answered) (c .match .keys2)
 
-clear-bytes-requires : tie.Need-clear-bytes-requires
-clear-bytes-requires c κs = search needs
-
-clear-words-requires : tie.Need-clear-words-requires
-clear-words-requires c κs = search needs
-
 header-of-requires : tie.Need-header-of-requires
 header-of-requires c κs = passed-is _ (c .before .before .before .before .before .before .before .before .before .before .before .before .pre .0) .head
-
-collapse-requires : tie.Need-collapse-requires
-collapse-requires c κs = search needs
-
-enum-told : tie.Need-enum-told
-enum-told c = search needs
-
-clear-bytes-requires-2 : tie.Need-clear-bytes-requires-2
-clear-bytes-requires-2 c κs = search needs
-
-refused-requires : tie.Need-refused-requires
-refused-requires c κs = search needs
-
-same-length : tie.Need-same-length
-same-length c = search needs
-
-same-length-2 : tie.Need-same-length-2
-same-length-2 c = search needs
 
 returns : tie.Need-returns
 returns c =
@@ -82,12 +58,6 @@ measure-requires c κs =
       rw (area-cleared k .clear-words .ensures, length-replicate) (p .3),
     )
 
-same-length-3 : tie.Need-same-length-3
-same-length-3 c = search needs
-
-same-length-4 : tie.Need-same-length-4
-same-length-4 c = search needs
-
 returns-2 : tie.Need-returns-2
 returns-2 c =
     let m = c .before .before .before .before .before .before in
@@ -101,17 +71,17 @@ pub begin-spec : {M : Type 1} → statement M
 begin-spec =
     tie.close
     (tie.spec
-    clear-bytes-requires
-    clear-words-requires
+    (λ c κs. search needs)
+    (λ c κs. search needs)
     header-of-requires
-    collapse-requires
-    enum-told
-    clear-bytes-requires-2
-    refused-requires
-    same-length
-    same-length-2
+    (λ c κs. search needs)
+    (λ c. search needs)
+    (λ c κs. search needs)
+    (λ c κs. search needs)
+    (λ c. search needs)
+    (λ c. search needs)
     returns
     measure-requires
-    same-length-3
-    same-length-4
+    (λ c. search needs)
+    (λ c. search needs)
     returns-2)

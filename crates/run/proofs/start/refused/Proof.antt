@@ -4,11 +4,8 @@ use borrow.Author.Needs.{needs}
 use Rattle.run.proofs.start.refused.Statement.{statement}
 use Rattle.run.proofs.start.refused.Tie as tie
 
-no-kinds-requires : tie.Need-no-kinds-requires
-no-kinds-requires c κs = search needs
-
 returns : tie.Need-returns
 returns c = rw (c .no-kinds .ensures) refl
 
 pub refused-spec : {M : Type 1} → statement M
-refused-spec = tie.close (tie.spec no-kinds-requires returns)
+refused-spec = tie.close (tie.spec (λ c κs. search needs) returns)

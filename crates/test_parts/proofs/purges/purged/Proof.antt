@@ -25,65 +25,20 @@ header c = c .before .before .before .before .before
 small : (c : tie.After-begin) → let s = c .begin .result .held .state in (s .types ≤ s .made) × (s .made ≤ 128) × (epsilonOf (s .phase) ≤ 65535)
 small c = let e = header c .header-of .ensures in begun-small (c .begin .ensures) (omega (arith, e .epsilon-is, e .epsilon-fits))
 
-check-requires : tie.Need-check-requires
-check-requires c κs = search needs
-
-tell-requires : tie.Need-tell-requires
-tell-requires c κs = search needs
-
-answer-requires : tie.Need-answer-requires
-answer-requires c κs = search needs
-
-returns : tie.Need-returns
-returns c = search needs
-
 header-of-requires : tie.Need-header-of-requires
 header-of-requires c κs = passed-is _ (ok c) .head
 
 weights-requires : tie.Need-weights-requires
 weights-requires c κs = (ok (c .before), c .header-of .ensures .width-is)
 
-slice-aggregate-begin : tie.Need-slice-aggregate-begin
-slice-aggregate-begin c = search needs
-
-slice-aggregate-begin-2 : tie.Need-slice-aggregate-begin-2
-slice-aggregate-begin-2 c = search needs
-
-slice-aggregate-begin-3 : tie.Need-slice-aggregate-begin-3
-slice-aggregate-begin-3 c = search needs
-
 begin-requires : tie.Need-begin-requires
 begin-requires c κs = (ok (c .before .before .before .before .before), c .before .before .before .weights .ensures, omega arith, omega arith)
-
-inferred-from-requires : tie.Need-inferred-from-requires
-inferred-from-requires c κs = search needs
-
-slice-aggregate-purge : tie.Need-slice-aggregate-purge
-slice-aggregate-purge c = search needs
-
-slice-aggregate-purge-2 : tie.Need-slice-aggregate-purge-2
-slice-aggregate-purge-2 c = search needs
 
 purge-requires : tie.Need-purge-requires
 purge-requires c κs =
     let b = c .before .before .before .before .before .before .before .before in
     let (few, made, epsilon) = small b in
     (few, made, epsilon, omega (arith, b .begin .ensures .states-size), omega (arith, b .begin .ensures .area-size))
-
-slice-aggregate-number : tie.Need-slice-aggregate-number
-slice-aggregate-number c = search needs
-
-number-requires : tie.Need-number-requires
-number-requires c κs = search needs
-
-slice-aggregate-put : tie.Need-slice-aggregate-put
-slice-aggregate-put c = search needs
-
-put-requires : tie.Need-put-requires
-put-requires c κs = search needs
-
-slice-aggregate-put-types : tie.Need-slice-aggregate-put-types
-slice-aggregate-put-types c = search needs
 
 put-types-requires : tie.Need-put-types-requires
 put-types-requires c κs =
@@ -94,9 +49,6 @@ put-types-requires c κs =
       omega (arith, p .purge .ensures .made-stays, small (begun p) .1),
     )
 
-slice-aggregate-put-links : tie.Need-slice-aggregate-put-links
-slice-aggregate-put-links c = search needs
-
 put-links-requires : tie.Need-put-links-requires
 put-links-requires c κs =
     let p = c .before .before .before .before .before .before .before .before .before in
@@ -105,41 +57,32 @@ put-links-requires c κs =
       omega (arith, p .purge .ensures .no-more, few, made),
     )
 
-tell-requires-2 : tie.Need-tell-requires-2
-tell-requires-2 c κs = search needs
-
-answer-requires-2 : tie.Need-answer-requires-2
-answer-requires-2 c κs = search needs
-
-returns-2 : tie.Need-returns-2
-returns-2 c = search needs
-
 pub purged-spec : {M : Type 1} → statement M
 purged-spec =
     tie.close
     (tie.spec
-    check-requires
-    tell-requires
-    answer-requires
-    returns
+    (λ c κs. search needs)
+    (λ c κs. search needs)
+    (λ c κs. search needs)
+    (λ c. search needs)
     header-of-requires
     weights-requires
-    slice-aggregate-begin
-    slice-aggregate-begin-2
-    slice-aggregate-begin-3
+    (λ c. search needs)
+    (λ c. search needs)
+    (λ c. search needs)
     begin-requires
-    inferred-from-requires
-    slice-aggregate-purge
-    slice-aggregate-purge-2
+    (λ c κs. search needs)
+    (λ c. search needs)
+    (λ c. search needs)
     purge-requires
-    slice-aggregate-number
-    number-requires
-    slice-aggregate-put
-    put-requires
-    slice-aggregate-put-types
+    (λ c. search needs)
+    (λ c κs. search needs)
+    (λ c. search needs)
+    (λ c κs. search needs)
+    (λ c. search needs)
     put-types-requires
-    slice-aggregate-put-links
+    (λ c. search needs)
     put-links-requires
-    tell-requires-2
-    answer-requires-2
-    returns-2)
+    (λ c κs. search needs)
+    (λ c κs. search needs)
+    (λ c. search needs))

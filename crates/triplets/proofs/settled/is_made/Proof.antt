@@ -1,4 +1,4 @@
--- `settled::is_made` meets its contract: the words of the row guessed tell whether it is the row asked for.
+-- `settled::is_made` meets its contract: the mismatches of the row guessed tell whether it is the row asked for.
 use mathlib.Core.Path.{refl, sym, _∙_}
 use mathlib.Core.Bool.{false≢true}
 use borrow.Author.Needs.{needs}
@@ -12,28 +12,13 @@ returns c =
     let s = c .before .before .before .before in
     (λ e. mixed-none _ _ _ _ _ _ (s .pre .2) (c .if1 .taken), s .pre .0, refl)
 
-guess-requires : tie.Need-guess-requires
-guess-requires c κs = search needs
-
 returns-2 : tie.Need-returns-2
 returns-2 c = (λ e. absurd (false≢true e), c .before .before .before .before .before .before .pre .0, refl)
 
-word-of-requires : tie.Need-word-of-requires
-word-of-requires c κs = search needs
-
-same-length : tie.Need-same-length
-same-length c = search needs
-
 returns-3 : tie.Need-returns-3
 returns-3 c =
-    let w = c .before .before .before .word-of in
+    let w = c .before .before .before .mismatches-of in
     (λ e. absurd (false≢true e), w .ensures .1, w .ensures .2)
-
-word-of-requires-2 : tie.Need-word-of-requires-2
-word-of-requires-2 c κs = search needs
-
-same-length-2 : tie.Need-same-length-2
-same-length-2 c = search needs
 
 returns-4 : tie.Need-returns-4
 returns-4 c =
@@ -43,11 +28,11 @@ returns-4 c =
       λ t. record {
         row = _;
         is-made = a .before .before .if2 .left;
-        with-first = sym (a .word-of .ensures .0) ∙ e .if3 .left;
-        with-second = rw (sym (b .word-of2 .ensures .0)) (eqb-true _ _ t);
+        with-first = sym (a .mismatches-of .ensures .0) ∙ e .if3 .left;
+        with-second = rw (sym (b .mismatches-of2 .ensures .0)) (eqb-true _ _ t);
       },
-      b .word-of2 .ensures .1,
-      b .word-of2 .ensures .2 ∙ a .word-of .ensures .2,
+      b .mismatches-of2 .ensures .1,
+      b .mismatches-of2 .ensures .2 ∙ a .mismatches-of .ensures .2,
     )
 
 pub is-made-spec : {M : Type 1} → statement M
@@ -55,11 +40,11 @@ is-made-spec =
     tie.close
     (tie.spec
     returns
-    guess-requires
+    (λ c κs. search needs)
     returns-2
-    word-of-requires
-    same-length
+    (λ c κs. search needs)
+    (λ c. search needs)
     returns-3
-    word-of-requires-2
-    same-length-2
+    (λ c κs. search needs)
+    (λ c. search needs)
     returns-4)

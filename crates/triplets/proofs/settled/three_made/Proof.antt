@@ -7,43 +7,16 @@ use Rattle.triplets.proofs.settled.Mixing.{settled-three}
 use Rattle.triplets.proofs.settled.three_made.Statement.{statement}
 use Rattle.triplets.proofs.settled.three_made.Tie as tie
 
-alone-requires : tie.Need-alone-requires
-alone-requires c κs = search needs
-
-is-made-requires : tie.Need-is-made-requires
-is-made-requires c κs = search needs
-
-same-length : tie.Need-same-length
-same-length c = search needs
-
 returns : tie.Need-returns
 returns c =
     let k = c .before .before .before .is-made in
     (λ e. absurd (false≢true e), k .ensures .1, k .ensures .2)
-
-alone-requires-2 : tie.Need-alone-requires-2
-alone-requires-2 c κs = search needs
-
-is-made-requires-2 : tie.Need-is-made-requires-2
-is-made-requires-2 c κs = search needs
-
-same-length-2 : tie.Need-same-length-2
-same-length-2 c = search needs
 
 returns-2 : tie.Need-returns-2
 returns-2 c =
     let l = c .before .before .before in
     let k = l .before .before .before .before .before .before in
     (λ e. absurd (false≢true e), l .is-made2 .ensures .1, l .is-made2 .ensures .2 ∙ k .is-made .ensures .2)
-
-alone-requires-3 : tie.Need-alone-requires-3
-alone-requires-3 c κs = search needs
-
-is-made-requires-3 : tie.Need-is-made-requires-3
-is-made-requires-3 c κs = search needs
-
-same-length-3 : tie.Need-same-length-3
-same-length-3 c = search needs
 
 returns-3 : tie.Need-returns-3
 returns-3 c =
@@ -63,15 +36,15 @@ pub three-made-spec : {M : Type 1} → statement M
 three-made-spec =
     tie.close
     (tie.spec
-    alone-requires
-    is-made-requires
-    same-length
+    (λ c κs. search needs)
+    (λ c κs. search needs)
+    (λ c. search needs)
     returns
-    alone-requires-2
-    is-made-requires-2
-    same-length-2
+    (λ c κs. search needs)
+    (λ c κs. search needs)
+    (λ c. search needs)
     returns-2
-    alone-requires-3
-    is-made-requires-3
-    same-length-3
+    (λ c κs. search needs)
+    (λ c κs. search needs)
+    (λ c. search needs)
     returns-3)

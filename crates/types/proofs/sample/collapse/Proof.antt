@@ -29,37 +29,19 @@ found c =
     let l = c .before .before .before .before .before .before .loop in
     c .find-row .ensures ∙ ap (λ (r : Bytes). first (l .types) (λ j. sameRow (storedAt (l .states) j) r)) (c .before .before .before .before .row .ensures)
 
-no-kinds-requires : tie.Need-no-kinds-requires Inv-loop μ-loop
-no-kinds-requires c κs = search needs
-
 loop-holds : tie.Need-loop-holds Inv-loop μ-loop
 loop-holds c = let s = c .before .before .before in none-read (s .pre .0) (s .pre .3) (c .no-kinds .ensures)
 
 row-requires : tie.Need-row-requires Inv-loop μ-loop
 row-requires c κs = let s = c .before .before .before .before .before in (s .pre .0, s .pre .2, omega arith)
 
-single-requires : tie.Need-single-requires Inv-loop μ-loop
-single-requires c κs = search needs
-
 find-row-requires : tie.Need-find-row-requires Inv-loop μ-loop
 find-row-requires c κs = omega (arith, same-size (c .before .before .before .before .before .loop .inv))
-
-mul-kind : tie.Need-mul-kind Inv-loop μ-loop
-mul-kind c = omega arith
-
-array-copy-out-kind : tie.Need-array-copy-out-kind Inv-loop μ-loop
-array-copy-out-kind c = omega arith
 
 one-more-requires : tie.Need-one-more-requires Inv-loop μ-loop
 one-more-requires c κs =
     let f = c .before .before in
     countable (f .before .before .before .before .before .before .loop .inv) (f .find-row .result) (omega arith) (omega arith)
-
-mul-kinds : tie.Need-mul-kinds Inv-loop μ-loop
-mul-kinds c = omega arith
-
-array-set-from-kinds : tie.Need-array-set-from-kinds Inv-loop μ-loop
-array-set-from-kinds c = omega arith
 
 same-length : tie.Need-same-length Inv-loop μ-loop
 same-length c = same-size (c .before .before .before .before .before .before .before .before .loop .inv)
@@ -69,12 +51,6 @@ returns c =
     let f = c .before .before in
     refused (f .before .before .before .before .before .before .loop .inv) (omega arith) (found f) (omega arith) (omega arith)
 
-slice-aggregate-copy : tie.Need-slice-aggregate-copy Inv-loop μ-loop
-slice-aggregate-copy c = search needs
-
-mul-copy : tie.Need-mul-copy Inv-loop μ-loop
-mul-copy c = omega arith
-
 copy-requires : tie.Need-copy-requires Inv-loop μ-loop
 copy-requires c κs =
     let r = c .before .before .before .before .before .before .before .before in
@@ -82,21 +58,6 @@ copy-requires c κs =
     let job = r .before .before .before .before .before .before .args .job .now in
     let full = ap length (r .row .ensures) ∙ row-size job (l .inv .ok) (l .k) (omega arith) in
     omega (arith, full, same-size (l .inv))
-
-mul-kinds-2 : tie.Need-mul-kinds-2 Inv-loop μ-loop
-mul-kinds-2 c = omega arith
-
-array-set-from-kinds-2 : tie.Need-array-set-from-kinds-2 Inv-loop μ-loop
-array-set-from-kinds-2 c = omega arith
-
-add-types : tie.Need-add-types Inv-loop μ-loop
-add-types c = omega arith
-
-add-k : tie.Need-add-k Inv-loop μ-loop
-add-k c = omega arith
-
-loop-less : tie.Need-loop-less Inv-loop μ-loop
-loop-less c = omega arith
 
 -- The row was counted by type i, or it is one type more.
 loop-again : tie.Need-loop-again Inv-loop μ-loop
@@ -128,26 +89,26 @@ collapse-spec =
     (tie.spec
     Inv-loop
     μ-loop
-    no-kinds-requires
+    (λ c κs. search needs)
     loop-holds
     row-requires
-    single-requires
+    (λ c κs. search needs)
     find-row-requires
-    mul-kind
-    array-copy-out-kind
+    (λ c. omega arith)
+    (λ c. omega arith)
     one-more-requires
-    mul-kinds
-    array-set-from-kinds
+    (λ c. omega arith)
+    (λ c. omega arith)
     same-length
     returns
-    slice-aggregate-copy
-    mul-copy
+    (λ c. search needs)
+    (λ c. omega arith)
     copy-requires
-    mul-kinds-2
-    array-set-from-kinds-2
-    add-types
-    add-k
-    loop-less
+    (λ c. omega arith)
+    (λ c. omega arith)
+    (λ c. omega arith)
+    (λ c. omega arith)
+    (λ c. omega arith)
     loop-again
     same-length-2
     returns-2)

@@ -6,14 +6,8 @@ use Rattle.rules.specs.Types.{rowCount}
 use Rattle.types.proofs.sample.one_more.Statement.{statement}
 use Rattle.types.proofs.sample.one_more.Tie as tie
 
-enum-known-origin : tie.Need-enum-known-origin
-enum-known-origin c = search needs
-
 add-t6 : tie.Need-add-t6
 add-t6 c = omega (arith, ap rowCount (c .before .origin .given .1))
-
-enum-told : tie.Need-enum-told
-enum-told c = search needs
 
 returns : tie.Need-returns
 returns c = rw (c .before .origin .given .1)
@@ -22,4 +16,4 @@ returns-2 : tie.Need-returns-2
 returns-2 c = rw (c .enum-told .given .1)
 
 pub one-more-spec : {M : Type 1} → statement M
-one-more-spec = tie.close (tie.spec enum-known-origin add-t6 enum-told returns returns-2)
+one-more-spec = tie.close (tie.spec (λ c. search needs) add-t6 (λ c. search needs) returns returns-2)

@@ -3,8 +3,5 @@ use mathlib.Core.Path.{refl}
 use Rattle.medians.proofs.search.Search.filled.Statement.{statement}
 use Rattle.medians.proofs.search.Search.filled.Tie as tie
 
-returns : tie.Need-returns
-returns c = refl
-
 pub filled-spec : {M : Type 1} → statement M
-filled-spec = tie.close (tie.spec returns)
+filled-spec = tie.close (tie.spec (λ c. refl))

@@ -3,8 +3,5 @@ use mathlib.Core.Path.{refl}
 use Rattle.medians.proofs.search.Search.lowered.Statement.{statement}
 use Rattle.medians.proofs.search.Search.lowered.Tie as tie
 
-returns : tie.Need-returns
-returns c = refl
-
 pub lowered-spec : {M : Type 1} → statement M
-lowered-spec = tie.close (tie.spec returns)
+lowered-spec = tie.close (tie.spec (λ c. refl))

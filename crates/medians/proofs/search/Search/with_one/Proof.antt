@@ -4,11 +4,5 @@ use native.Mathlib.Omega.{arith}
 use Rattle.medians.proofs.search.Search.with_one.Statement.{statement}
 use Rattle.medians.proofs.search.Search.with_one.Tie as tie
 
-add-self : tie.Need-add-self
-add-self c = omega arith
-
-returns : tie.Need-returns
-returns c = refl
-
 pub with-one-spec : {M : Type 1} → statement M
-with-one-spec = tie.close (tie.spec add-self returns)
+with-one-spec = tie.close (tie.spec (λ c. omega arith) (λ c. refl))

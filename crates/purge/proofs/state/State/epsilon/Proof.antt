@@ -3,12 +3,6 @@ use borrow.Author.Needs.{needs}
 use Rattle.purge.proofs.state.State.epsilon.Statement.{statement}
 use Rattle.purge.proofs.state.State.epsilon.Tie as tie
 
-enum-known-phase : tie.Need-enum-known-phase
-enum-known-phase c = search needs
-
-enum-told : tie.Need-enum-told
-enum-told c = search needs
-
 returns : tie.Need-returns
 returns c = rw (c .before .phase .given .1)
 
@@ -16,4 +10,4 @@ returns-2 : tie.Need-returns-2
 returns-2 c = rw (c .enum-told .given .1)
 
 pub epsilon-spec : {M : Type 1} → statement M
-epsilon-spec = tie.close (tie.spec enum-known-phase enum-told returns returns-2)
+epsilon-spec = tie.close (tie.spec (λ c. search needs) (λ c. search needs) returns returns-2)

@@ -3,8 +3,5 @@ use mathlib.Core.Path.{refl}
 use Rattle.purge.proofs.state.State.keeping.Statement.{statement}
 use Rattle.purge.proofs.state.State.keeping.Tie as tie
 
-returns : tie.Need-returns
-returns c = refl
-
 pub keeping-spec : {M : Type 1} → statement M
-keeping-spec = tie.close (tie.spec returns)
+keeping-spec = tie.close (tie.spec (λ c. refl))

@@ -3,8 +3,5 @@ use mathlib.Core.Path.{refl}
 use Rattle.purge.proofs.state.State.second_phase.Statement.{statement}
 use Rattle.purge.proofs.state.State.second_phase.Tie as tie
 
-returns : tie.Need-returns
-returns c = refl
-
 pub second-phase-spec : {M : Type 1} → statement M
-second-phase-spec = tie.close (tie.spec returns)
+second-phase-spec = tie.close (tie.spec (λ c. refl))
