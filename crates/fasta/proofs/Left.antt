@@ -31,7 +31,7 @@ use Rattle.fasta.proofs.Written.{length-weights}
 
 -- ── A text that is not refused ──
 
--- It is checkedText as n sequences of m states each.
+-- It is measured as n sequences of m states each.
 pub record Sized (text : Bytes) (n m : ℕ) : Type 0 where
   pub passes : refuses (checkedText text) ≡ false
   pub rows-are : n ≡ sequences text

@@ -1,4 +1,4 @@
--- The job block that a FASTA text and an epsilon are conversionOf into.
+-- The job block that a FASTA text and an epsilon are turned into.
 use mathlib.Core.List.{List, [], _∷_, _++_}
 use Prim.Native.Nat.{ℕ, _+_, _*_}
 use lib.ListN.{length, replicate}

@@ -1,4 +1,6 @@
-// The room of FASTA: a text and an epsilon become a job block with all weights 1, in memory that is lent. The text is only read.
+// The room of FASTA: a text and an epsilon become a job block with all weights 1, in memory that is lent. Its corners: which bytes open a
+// sequence and which are states (`lines`), how many sequences there are and how long (`alignment`), what a text is answered
+// (`conversion`). The text is only read.
 
 pub mod alignment;
 pub mod conversion;

@@ -4,6 +4,7 @@
 
 ghost use Prim.Native.Nat.{_≤_};
 ghost use lib.ListN.{length};
+use answers::Told;
 use memory::copy;
 use rules::Answer;
 use rules::LARGEST_JOB;
@@ -26,7 +27,7 @@ fn print(text: &[u8]) {
 // Prints the text of an answer if the memory lent has room for it, and says whether it has.
 fn print_in<'a>(job: &'a [u8], block: &'a [u8], answer: Answer, out: &mut [u8]) -> bool {
     let printed = brief(job, block, answer, out);
-    let told = tell_text(printed);
+    let told: Told = tell_text(printed);
     if told.number != 0 {
         return false;
     }

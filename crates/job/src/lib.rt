@@ -1,5 +1,5 @@
-// The room of the job block: what is read off a job that passed the checks: its fields, its weights and its rows. The job is only
-// read.
+// The room of the job block. Its corners are the checks: of the lengths lent (`areas`, 1), of the job's form (`checks`, 2 to 5) and of its
+// contents (`contents`, 6 and 7). Here is what is read off a job that passed: its fields, its weights and its rows. The job is only read.
 
 pub mod areas;
 pub mod checks;

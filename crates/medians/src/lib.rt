@@ -1,4 +1,5 @@
-// The room of median vectors: the three median vectors of a triplet, and their connection cost. It reads the state area.
+// The room of median vectors: the three of a triplet, and their connection cost. Its corners tell whether a vector is new (`guesses`), what
+// one candidate makes of a search (`search`), and meet the vectors of a triplet (`visit`). It reads the state area.
 
 pub mod guesses;
 pub mod search;

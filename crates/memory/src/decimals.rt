@@ -1,4 +1,4 @@
-// The corner of lines: a text and a number in decimals, one behind the other, in memory that is lent. Leaf code that knows nothing of
+// The corner of decimals: a text and a number in decimals, one behind the other, in memory that is lent. Leaf code that knows nothing of
 // networks.
 
 ghost use mathlib.Core.List.{_++_};

@@ -1,5 +1,6 @@
-// The room of lent memory: numbers of 16 bits in bytes, eight bytes at once, clearing to the end, copying into a part. Leaf code: every other room
-// reads and writes through it, and it knows nothing of jobs or types.
+// The room of lent memory: numbers of 16 bits in bytes, eight bytes at once, clearing to the end, copying into a part. Its corners write
+// numbers in decimals (`decimals`) and read them (`numerals`). Leaf code: every other room reads and writes through it, and it knows
+// nothing of jobs or types.
 
 pub mod decimals;
 pub mod numerals;

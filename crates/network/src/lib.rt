@@ -1,5 +1,6 @@
 // The room of the call: every job is answered. The result holds the network's block and zeros behind it, or zeros throughout; all work
-// memory is zero to its end. The job is only read, and what lay in the memory before does not matter.
+// memory is zero to its end. The job is only read, and what lay in the memory before does not matter. Its corner (`draw`) runs a job that
+// passed the checks and writes its network up to the links.
 
 pub mod draw;
 

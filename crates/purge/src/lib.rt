@@ -1,5 +1,6 @@
 // The room of the purge: obsolete types go together, links are found afresh, until none is obsolete. A type that goes is retired:
-// its row moves behind the rows of all types made and stays known. It writes the state area and the distance area.
+// its row moves behind the rows of all types made and stays known. Its corners: the run's small state (`state`), which types stay
+// (`stay`), what is left when the others go (`retire`). It writes the state area and the distance area.
 
 pub mod retire;
 pub mod state;

@@ -1,6 +1,6 @@
-// The room of the result block: the network that a run left in memory is written as document 01 lays it out, but for its links, which are
-// written from the link table. It reads the state area, the distance area and what is held by value, and writes the front of the part that
-// it is lent, and nothing behind the rows.
+// The room of the result block: the network that a run left in memory is written as the rules lay it out. Here is its front, up to the
+// links, with the records and rows of its corner `records`; the links go in their order (`ordered`) to the link table and from there to the
+// result (`table`). It reads the state area, the distance area and what is held by value.
 
 pub mod ordered;
 pub mod records;

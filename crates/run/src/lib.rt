@@ -1,5 +1,6 @@
 // The room of the run: Phase I at epsilon until there is no candidate, then Phase II at epsilon 0. What is left in the state area, in
-// the distance area and in the state of the run is the network; after a refusal both areas are zero. The job is only read.
+// the distance area and in the state of the run is the network; after a refusal both areas are zero. Its corner is how a run begins
+// (`start`). The job is only read.
 
 pub mod start;
 

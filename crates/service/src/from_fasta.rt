@@ -1,8 +1,9 @@
-// The corner of the service for FASTA: a text is conversionOf into a job, which is answered, and the answer printed into memory that is lent. What
+// The corner of the service for FASTA: a text is turned into a job, which is answered, and the answer printed into memory that is lent. What
 // the program for FASTA does, but for reading and writing.
 
 ghost use Rattle.service.specs.Printed.{FastaText};
 use crate::answer_text;
+use answers::Told;
 use fasta::conversion::tell_conversion;
 use fasta::make_job;
 use rules::LARGEST_JOB;
@@ -15,7 +16,7 @@ pub fn answer_fasta(text: &[u8], epsilon: u16, out: &mut [u8]) -> usize
 {
     let mut job = [0u8; LARGEST_JOB];
     let conversion = make_job(text, epsilon, &mut job);
-    let told = tell_conversion(conversion);
+    let told: Told = tell_conversion(conversion);
     if told.number == 0 {
         let used = told.used;
         return answer_text(&job[..used], out);

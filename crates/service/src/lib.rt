@@ -1,10 +1,11 @@
-// The room of the whole service: a job is answered and its answer printed into memory that is lent. What the programs do, but for reading
-// and writing.
+// The room of the whole service: a job is answered and its answer printed, over work memory of its own. Its corner does the same for a FASTA
+// text (`from_fasta`). What the programs do, but for reading and writing.
 
 pub mod from_fasta;
 
 ghost use Rattle.network.specs.Called.{Called};
 ghost use Rattle.service.specs.Served.{AnsweredJob, TextOnly};
+use answers::Told;
 use network::call;
 use rules::Answer;
 use rules::DISTANCE_AREA;
@@ -60,6 +61,6 @@ pub fn answer_text(job: &[u8], out: &mut [u8]) -> usize
     let mut result = [0u8; RESULT_AREA];
     let answer = answer_job(job, &mut result);
     let printed = text(job, &result, answer, out);
-    let told = tell_text(printed);
+    let told: Told = tell_text(printed);
     told.used
 }

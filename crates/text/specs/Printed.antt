@@ -65,7 +65,7 @@ printedWithin room lent job block answer =
     let done = Done (length (textOf job block answer)) in
     cond (ltb lent room) Short (cond (eqb (number answer) 0 && not (legible job block)) Block done)
 
--- Short for every text is asked for.
+-- Room for every text is asked for.
 unfoldable pub printedAs : ℕ → Bytes → Bytes → Answer → Printed
 printedAs lent job block answer = printedWithin textRoom lent job block answer
 
@@ -98,7 +98,7 @@ pub record TextLeft (job block : Bytes) (answer : Answer) (lent : ℕ) (out : By
   pub answered : r ≡ printedAs lent job block answer
   pub left : out ≡ padded lent (printedBytes (printedAs lent job block answer) (textOf job block answer))
 
--- Short for this text alone is asked for.
+-- Room for this text alone is asked for.
 unfoldable pub briefAs : ℕ → Bytes → Bytes → Answer → Printed
 briefAs lent job block answer = printedWithin (briefRoom block answer) lent job block answer
 

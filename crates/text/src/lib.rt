@@ -1,5 +1,5 @@
-// The room of the printed text: the lines of a network or of a refusal, built from a job, its result block and its answer into memory
-// that is lent. Job and block are only read.
+// The room of the printed text: the lines of a network (its corner `listing`) or of a refusal, built from a job, its result block and its
+// answer into memory that is lent. Job and block are only read.
 
 pub mod listing;
 

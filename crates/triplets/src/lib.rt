@@ -1,5 +1,6 @@
-// The room of triplets: who is linked with a type, one after the other, and which triplets can have a candidate. It reads the
-// distance area.
+// The room of triplets: who is linked with a type, one after the other, and which triplets can have a candidate. Its corners tell that
+// all median vectors of a triplet were made (`settled`), by the characters in which rows differ (`mismatches`) and by guesses that are
+// checked (`hints`). It reads the state area and the distance area.
 
 pub mod hints;
 pub mod mismatches;

@@ -1,5 +1,5 @@
 // The room of types: how they lie in memory. A type's states lie in the lent state area, 64 bytes to a type, and its origin in an array
-// of kinds. It only reads the state area.
+// of kinds; here both are only read. In its corner (`sample`) the equal rows of a job become sampled types.
 
 pub mod sample;
 
