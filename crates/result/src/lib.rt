@@ -1,4 +1,4 @@
-// The room of the result block: the network that a run left in memory is written as document 01 lays it out, but for its links, which are
+// The room of the result block: the network that a run left in memory is written as RULES 13 lays it out, but for its links, which are
 // written from the link table. It reads the state area, the distance area and what is held by value, and writes the front of the part that
 // it is lent, and nothing behind the rows.
 
