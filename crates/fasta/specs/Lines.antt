@@ -36,7 +36,7 @@ inHeader text i = eqb (byteAt text (lineStart text i)) opener
 abbrev pub opens : Bytes → ℕ → Bool
 opens text i = eqb (lineStart text i) i && inHeader text i
 
--- RULES 18.3, 18.4: any other byte is a state, unless it belongs to a line's end. An empty line has none.
+-- RULES 18.3, 18.4: any other byte is meant as a state, unless it belongs to a line's end. Refusal 22 asks whether it is one.
 abbrev pub isState : Bytes → ℕ → Bool
 isState text i = not (inHeader text i) && not (endsLine text i)
 

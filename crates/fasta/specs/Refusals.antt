@@ -15,7 +15,7 @@ use Rattle.fasta.specs.Sequences.{opened, joined, sequences, sequence}
 
 -- ── Met while reading; the place is a byte ──
 
--- RULES 18.7 (21): a state, and no sequence is open.
+-- RULES 18.7 (21): text, and no sequence is open yet.
 abbrev pub beforeFirst : Bytes → ℕ → Bool
 beforeFirst text i = isState text i && eqb (opened text i) 0
 

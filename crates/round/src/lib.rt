@@ -1,5 +1,5 @@
-// The room of rounds: a round takes the state of the run and hands back the next one. The new types stand behind the current ones;
-// the rows of the retired ones move up. It writes the state area and the distance area.
+// The room of rounds (RULES 11): from one state of the run to the next. The new types stand behind the current ones; the rows of the
+// retired ones move up. It writes the state area and the distance area.
 
 pub mod ascending;
 pub mod candidates;

@@ -24,7 +24,7 @@ pub data Verdict : Type 0 where
 abbrev pub concluded : Network → Verdict
 concluded net = cond (split net) (refused Split) (found net)
 
--- RULES 4.3 (ROOM), 12.2: the same of a job whose Phase I has ended.
+-- RULES 4.3 (ROOM), 12.2: what becomes of a job whose Phase I has ended.
 abbrev pub ended : List ℕ → Outcome → Verdict
 ended ws (full round) = refused (Room round)
 ended ws (settled run) = concluded (phaseTwo ws run)

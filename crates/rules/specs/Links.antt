@@ -13,7 +13,7 @@ use Rattle.rules.specs.Job.{Row}
 use Rattle.rules.specs.Distance.{apart}
 use Rattle.rules.specs.declared.Link.{Link}
 
--- RULES 7.2: no chain of shorter steps leads from type i to type j. This is what to believe; `Feasible` of `graph` says it of any nodes.
+-- RULES 7.2: no chain of short steps leads from type i to type j. This is what to believe; `Feasible` of `graph` says it of any nodes.
 abbrev pub FeasibleLink : List ℕ → ℕ → List Row → ℕ → ℕ → Type 0
 FeasibleLink ws e rs i j = Feasible (length rs) (apart ws rs) e i j
 
