@@ -32,7 +32,7 @@ extern "C" {
 #define HURDLESONG_WIDTH 64
 
 /* The numbers of an answer. The refusals 1 to 10 are those of a call, in the order in which they are tried; 80 and 81 those of a text, 80
- * first. HURDLESONG_WIDTHS is document 01's WIDTH. */
+ * first. HURDLESONG_WIDTHS is WIDTH of the rules, RULES 4.3. */
 enum {
     HURDLESONG_DONE = 0,
     HURDLESONG_AREA = 1,

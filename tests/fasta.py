@@ -2,7 +2,7 @@
 """Writes what the program `test_fasta` is run on and what it must print: crates/test_fasta/args, data/hand_*.fasta and stdout.
 
 The stored texts (data/*.fasta with their .out, epsilons in data/INDEX) come with their answers. The answers below were written by hand
-from request A1, every refusal at the first and the last byte or sequence where it can be met; no FASTA text is read here.
+from request A1 (RULES 18), every refusal at the first and the last byte or sequence where it can be met; no FASTA text is read here.
 """
 import pathlib
 

@@ -1,5 +1,5 @@
 #!/usr/bin/env python3
-"""A second reading of request A1: a FASTA text and an epsilon become a job block with all weights 1.
+"""A second reading of request A1 (now chapter 18 of docs/RULES.md): a FASTA text and an epsilon become a job block with all weights 1.
 
 answer(text, epsilon, lent) -> (number, place, used, block), written from the request's words alone:
 the text is cut into lines with their offsets, then the lines are read one after another.

@@ -1,6 +1,7 @@
 """Distances, feasible links and purge, written from document 01 (called "01"
-below, the exact rules) and document 000 (called "the paper": Bandelt, Forster,
-Roehl 1999) alone, by an author who had not seen the library.
+below: the build scope, whose rules now stand in docs/RULES.md) and document 000
+(called "the paper": Bandelt, Forster, Roehl 1999) alone, by an author who had
+not seen the library.
 
 It is plain and slow on purpose.  Numbers are Python ints, so no sum wraps.
 A row is a str or bytes; a type's number is its place in the list given.

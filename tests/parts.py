@@ -1,6 +1,6 @@
 """The questions of the program `test_parts`, and what it must print: `python3 tests/parts.py` writes crates/test_parts/stdin and crates/test_parts/stdout.
 
-The answers come from rules01.py and links01.py, which were written from document 01 and document 000 alone.
+The answers come from rules01.py and links01.py, which were written from the customer's build scope and the paper alone (docs/RULES.md).
 """
 import pathlib
 
@@ -101,7 +101,7 @@ for n, m in (256, 65), (257, 64), (257, 65):
     types(f"{n} rows of {m}", built(n, m))
 
 
-# Two damages at once: the first in document 01's order must be given.
+# Two damages at once: the first in the order of RULES 4.2 must be given.
 
 def put(at, text):
     return lambda job: job.__setitem__(slice(at, at + len(text)), text)
@@ -154,7 +154,7 @@ def purged(title, weights, epsilon, rows, inferred=(), each=True):
 
 
 def first(names):
-    """Document 000's first example, with inferred types by their names there."""
+    """The first example of the paper, with inferred types by their names there."""
     return FIRST_EXAMPLE["weights"], FIRST_EXAMPLE["rows"], [FIRST_EXAMPLE["inferred"][name] for name in names]
 
 

@@ -1,4 +1,5 @@
-"""Refusals 2 to 8 and the sampled types of a job, written from document 01 alone, by an author who had not seen the library."""
+"""Refusals 2 to 8 and the sampled types of a job, written from document 01 alone (the build scope, whose
+rules now stand in docs/RULES.md), by an author who had not seen the library."""
 
 
 def number(job, at):

@@ -1,9 +1,9 @@
 #!/usr/bin/env bash
 # tests/second.sh [--jobs N] [--seed S]: generated jobs, answered by the proved program `test_worker` and by the second opinion in tests/second,
-# which was written from document 01 alone; whole answers are compared, byte by byte. The default is 10,000 jobs of seed 1. Before that the
-# second opinion passes its own tests: document 01's cases, each refusal's bounds, and facts tried by brute force. The program is proved and
-# built first where that is not done yet. The exit status is 0 only if every job was compared and none differs. With --build alone the second
-# opinion is only built and passes its own tests.
+# which was written from the build scope alone (its rules now stand in docs/RULES.md); whole answers are compared, byte by byte. The default
+# is 10,000 jobs of seed 1. Before that the second opinion passes its own tests: the cases of RULES 16, each refusal's bounds, and facts tried
+# by brute force. The program is proved and built first where that is not done yet. The exit status is 0 only if every job was compared and
+# none differs. With --build alone the second opinion is only built and passes its own tests.
 set -eu
 cd "$(dirname "$(realpath "$0")")/.."
 quietly() {

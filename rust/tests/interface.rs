@@ -1,5 +1,5 @@
 //! The archive through the Rust crate: P5, the row lookup, one of each refusal, and the memory that
-//! a call leaves. Expected values are those of document 01, written by hand. With
+//! a call leaves. Expected values are those of docs/RULES.md, written by hand. With
 //! HURDLESONG_VECTORS in the environment, every job of that folder is run against its text too.
 
 use hurdlesong::{Answer, Link, Memory, Refusal, TextRefusal};

@@ -1,5 +1,5 @@
 /* The test program of the C interface: it runs the archive's three functions from C and checks the answers, the memory they leave, and the
- * header's constants. Expected values are those of document 01, written by hand. It prints each failed check, then a last line with the
+ * header's constants. Expected values are those of docs/RULES.md, written by hand. It prints each failed check, then a last line with the
  * counts, and ends with status 1 where a check failed.
  *
  * P5 and the row lookup stand here, the refusals in refusals.c, and lent memory in lent.c. */
@@ -75,7 +75,7 @@ static void p5(void)
     check_call(HERE("P5, more lent"), &job, MORE, &wanted);
 }
 
-/* Document 01's job P2, so that P5 is not the only network: two equal rows are one type. */
+/* The job P2 of RULES 16.1, so that P5 is not the only network: two equal rows are one type. */
 static void p2(void)
 {
     const uint8_t block[] = {1, 0, 1, 0, 2, 0, 0, 0, 0, 0, 16, 0, 22, 0, 22, 0, 2, 0, 0, 0, 0, 0};

@@ -34,7 +34,7 @@ void put(uint8_t *block, size_t at, size_t number);
 /* The job of so many rows, which lie one behind the other in `states`. No weights at all: each is 1. */
 struct job job_of(size_t rows, size_t width, const char *states, const uint16_t *weights, size_t epsilon);
 
-/* Document 01's job P5, its result block (16 + 6t + (t - s)m + 6l bytes) and its text. */
+/* The job P5 of RULES 16.1, its result block (16 + 6t + (t - s)m + 6l bytes) and its text. */
 enum { P5_USED = 16 + 6 * 4 + 1 * 3 + 6 * 3 };
 extern const uint8_t P5_BLOCK[];
 extern const char P5_TEXT[];

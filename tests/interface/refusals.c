@@ -110,7 +110,7 @@ static size_t grid(char *states, int high, int low, const char *behind)
     return length;
 }
 
-/* Document 01's R2 and R4. */
+/* R2 and R4 of RULES 16.2. */
 static void rooms(void)
 {
     char states[1024];

@@ -1,4 +1,4 @@
-// The room of the answers: the number, the place and the bytes used of an answer, as document 01's table of refusals has them.
+// The room of the answers: the number, the place and the bytes used of an answer, as RULES 4 has them.
 
 ghost use mathlib.Core.Path.{_≡_};
 ghost use Rattle.answers.specs.Told.{Tells, ToldOf, firstOf};

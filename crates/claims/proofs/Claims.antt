@@ -1,5 +1,5 @@
--- What is claimed, in one page: of document 01's rules, of the public functions' contracts, and of the bytes that a call leaves. Each claim
--- is stated in the words of specs/ and proved by what it cites.
+-- What is claimed, in one page: of the rules (docs/RULES.md), of the public functions' contracts, and of the bytes that a call leaves. Each
+-- claim is stated in the words of specs/ and proved by what it cites.
 use mathlib.Core.Path.{_≡_, sym, _∙_}
 use mathlib.Core.Logic.{_↔_, _≢_}
 use mathlib.Core.List.{List, []}
@@ -56,13 +56,13 @@ use Rattle.claims.proofs.Calls as calls
 use Rattle.claims.proofs.Fasta as fasta
 use Rattle.claims.proofs.Handed as handed
 
--- ── The P cases ──
+-- ── RULES 16.1: the P cases ──
 
 -- All cases of the table hold: texts printed, bytes written, pairs linked.
 pub p-cases : T (all-hold cases)
 p-cases = table.table-holds
 
--- ── Demand 1: every job gets an answer, and nothing of an earlier job shows (`Called`, the contract of `call`) ──
+-- ── RULES 19.1: every job gets an answer, and nothing of an earlier job shows (`Called`, the contract of `call`) ──
 
 -- Two calls for the same job, lent memory of the same lengths, give the same answer and leave the same contents, whatever lay in the memory
 -- before. With the same memory before, this says that the contract leaves no choice.
@@ -81,7 +81,7 @@ module _ (job : Bytes) (before after : Memory) (r : Answer) (call : Calls job be
   pub past-zero : (k : ℕ) → used r ≤ k → getD (after .result) k 0 ≡ 0
   past-zero = calls.past-zero job before after r call
 
-  -- ── Demand 2: each refusal is given exactly when its condition holds and no earlier one does ──
+  -- ── RULES 19.2: each refusal is given exactly when its condition holds and no earlier one does ──
 
   pub refused-exactly : (a : Answer) → number a ≢ 0 → (r ≡ a) ↔ Due (lengthsOf before) job a
   refused-exactly a n = rw (call .served .answered) (refusals.given-in-turn (lengthsOf before) job a n)
@@ -93,7 +93,7 @@ module _ (job : Bytes) (before after : Memory) (r : Answer) (call : Calls job be
   pub never-split : r ≢ Split
   never-split = rw (call .served .answered) (refusals.never-split-answer (lengthsOf before) job)
 
-  -- ── Demand 3: what the bytes left in the result draw ──
+  -- ── RULES 19.3: what the bytes left in the result draw ──
 
   -- A link is drawn exactly if some cheapest tree over the kept types has it, and the rest of Drawing.antt.
   pub drawn-bytes : number r ≡ 0 → Drawing job (readBack job (after .result))
@@ -124,14 +124,14 @@ module _ (lent : Lent) (job : Bytes) where
     pub rows-back : (k : ℕ) → k < length (net .types) → lookup job (resultAfter lent job) k ≡ nodeAt (net .types) k .row
     rows-back = result.rows-read lent job net e
 
-    -- The bytes used are those that 01 counts, and the least memory lent is enough for them.
+    -- The bytes used are those of RULES 13.6, and the least memory lent is enough for them.
     pub bytes-used : used (answer lent job) ≡ blockLength (length (net .types)) (length (sampled (jobRows job))) (width job) (length (net .links))
     bytes-used = result.used-is lent job net e
 
 -- ── The row lookup (the contract of `states_of` is an equation with `lookup`) ──
 
 module _ (job block : Bytes) (k : ℕ) where
-  -- Something is handed back exactly if 01's conditions hold, and then as many states as a row has.
+  -- Something is handed back exactly if the conditions of RULES 14.2 hold, and then as many states as a row has.
   pub handed-exactly : (lookup job block k ≢ []) ↔ Handed job block k
   handed-exactly = handed.handed-exactly job block k
 
@@ -156,7 +156,7 @@ pub same-brief : (job block : Bytes) (a : Answer) (lent : ℕ) (out out′ : Byt
     BriefLeft job block a lent out r → BriefLeft job block a lent out′ r′ → (out ≡ out′) × (r ≡ r′)
 same-brief job block a lent out out′ r r′ p q = text.brief-one p q
 
--- The text of what a call leaves is the text that document 01 prints.
+-- The text of what a call leaves is the text of the rules (RULES 15).
 pub printed-text : (lent : Lent) (job : Bytes) → textOf job (resultAfter lent job) (answer lent job) ≡ printed lent job
 printed-text = service.text-is
 
@@ -168,7 +168,7 @@ module _ (lent : Lent) (job : Bytes) (n : ℕ) (out : Bytes) (r : Printed) (brie
   pub brief-roomy : textRoom ≤ n → r ≢ Short
   brief-roomy = service.brief-roomy lent job brief
 
--- What `text` prints of what a call leaves is document 01's text.
+-- What `text` prints of what a call leaves is the text of the rules.
 module _ (job : Bytes) (before after : Memory) (r : Answer) (call : Calls job before r after) (n : ℕ) (out : Bytes) (p : Printed)
     (t : TextLeft job (after .result) r n out p) where
   pub called-text : p ≡ printedIn n (printed (lengthsOf before) job)
@@ -220,7 +220,7 @@ pub same-text-told : (job block : Bytes) (n at lent : ℕ) (out out′ : Bytes) 
     TextTold job block n at lent out′ r′ → (out ≡ out′) × (r ≡ r′)
 same-text-told job block n at lent out out′ r r′ a b = (a .left ∙ sym (b .left), same-told _ _ _ r r′ (a .told) (b .told))
 
--- A call, and then the text by the number and the place that were told: the text that document 01 prints, if there is room for every text.
+-- A call, and then the text by the number and the place that were told: the text of the rules, if there is room for every text.
 module _ (job : Bytes) (before after : Memory) (r t : Told) (lent : ℕ) (out : Bytes) (call : CallsTold job before r after)
     (text : TextTold job (after .result) (r .number) (r .place) lent out t) where
   pub told-text : ToldText (printedIn lent (printed (lengthsOf before) job)) t

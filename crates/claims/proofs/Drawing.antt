@@ -1,4 +1,4 @@
--- Demand 3: what is drawn for a job is all cheapest trees over the kept types, laid over each other.
+-- RULES 19.3, the third demand: what is drawn for a job is all cheapest trees over the kept types, laid over each other.
 use mathlib.Core.Path.{_≡_}
 use mathlib.Core.Logic.{_↔_, _≢_, Iff·trans, Iff·symm}
 use mathlib.Core.Bool.{true}

@@ -1,4 +1,4 @@
--- Demand 3, put together: what is drawn for every job that is answered with a network.
+-- RULES 19.3, the third demand, put together: what is drawn for every job that is answered with a network.
 use mathlib.Core.Path.{_≡_, refl, ap, _∙_}
 use mathlib.Core.Bool.{true}
 use mathlib.Core.List.{List}

@@ -1,5 +1,4 @@
--- Demand 3: what is drawn. A link between two kept types is drawn exactly if some cheapest tree over the kept types uses it; every
--- sampled type is kept; every inferred type has at least three links.
+-- RULES 19.3, the third demand: what is drawn.
 use mathlib.Core.Path.{_≡_}
 use mathlib.Core.Logic.{_↔_, _≢_}
 use mathlib.Core.List.{List, _++_}
@@ -15,15 +14,15 @@ use Rattle.rules.specs.Links.{linkAt, Between, Before, linkCount}
 use Rattle.rules.specs.Run.{Network}
 use Rattle.rules.specs.declared.Link.{Link}
 
--- A link of the list lies between u and v.
+-- RULES 19.3: a link of the list lies between u and v.
 abbrev pub Listed : List Link → ℕ → ℕ → Type 0
 Listed ls u v = (k : ℕ) × (k < length ls) × Between (linkAt ls k) u v
 
--- The links join all kept types.
+-- RULES 4.8: the links join all kept types.
 abbrev pub JoinsAll : Network → Type 0
 JoinsAll net = (u v : ℕ) → u < length (net .types) → v < length (net .types) → Walk (Listed (net .links)) u v
 
--- What is drawn for a job. The kept types are numbered 0, 1, .. in the order of the list.
+-- RULES 19.3: what is drawn for a job. A type's number is its index in the list (RULES 13.2).
 pub record Drawing (job : Bytes) (net : Network) : Type 0 where
   -- the sampled types come first, in order of first row, and every one is kept; behind them come the inferred ones
   pub inferred : List Node

@@ -1,12 +1,12 @@
--- The row lookup: when it hands back a type's states, as plain propositions. The claims about it name `lookup`, which the contract of
--- `states_of` in `lookup` equals.
+-- RULES 14.2: when the row lookup hands back a type's states, as plain statements. The claims about it name `lookup`, which the contract
+-- of `states_of` in `lookup` equals.
 use mathlib.Core.Path.{_≡_}
 use Prim.Native.Nat.{ℕ, _+_, _*_, _-_, _≤_, _<_}
 use lib.ListN.{length}
 use Rattle.rules.specs.Answers.{number}
 use Rattle.rules.specs.Job.{Bytes, word, rows, width, checked}
 
--- The block's types t, its sampled types s, and the place in the record of type k.
+-- RULES 13.1, 13.3: the block's t and s, and the place in the record of type k.
 abbrev pub t : Bytes → ℕ
 t block = word block 0
 
@@ -16,9 +16,7 @@ s block = word block 2
 abbrev pub recordPlace : Bytes → ℕ → ℕ
 recordPlace block k = word block (16 + 6 * k + 2)
 
--- It does so exactly if the job passes checks 2 to 7; the result block has at least 16 bytes, s ≤ t ≤ 128, 1 ≤ s, the job's m, the three
--- offsets as above, and reaches to the links' offset; the number is below t; and the record's place is below n if the number is below s,
--- or below t − s otherwise.
+-- RULES 14.2: each condition of its list, with the numbers written out.
 pub record Handed (job block : Bytes) (k : ℕ) : Type 0 where
   pub passes : number (checked job) ≡ 0
   pub head : 16 ≤ length block

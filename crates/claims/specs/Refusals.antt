@@ -1,5 +1,5 @@
--- Demand 2's refusals: the conditions of document 01's table as plain propositions, one for each row, with its place.
--- proofs/Refusals.antt shows that a refusal is the answer exactly if its condition holds and no earlier one does.
+-- RULES 19.2, the second demand: the table of RULES 4.3 as plain statements, with the numbers written out. proofs/Refusals.antt shows that
+-- each refusal is given in its turn and never else.
 use mathlib.Core.Path.{_≡_}
 use mathlib.Core.Logic.{_⊎_, _≢_}
 use mathlib.Core.List.{List}
@@ -15,7 +15,7 @@ use Rattle.rules.specs.declared.Answer.the-variants.{Done, Area, Head, Rows, Wi
 use Rattle.readback.specs.Runs.{Runs}
 use Rattle.claims.specs.Drawing.{JoinsAll}
 
--- Of the numbers below n, p is the first of which P holds.
+-- RULES 4.3, 4.6: of the numbers below n, p is the first of which P holds.
 pub record FirstWhere (n : ℕ) (P : ℕ → Type 0) (p : ℕ) : Type 0 where
   pub below : p < n
   pub here : P p
@@ -24,7 +24,7 @@ pub record FirstWhere (n : ℕ) (P : ℕ → Type 0) (p : ℕ) : Type 0 where
 abbrev pub Outside : ℕ → ℕ → ℕ → Type 0
 Outside low high x = (x < low) ⊎ (high < x)
 
--- 6, 8 or 10 for the first wrong field, 12 for the bytes lent.
+-- RULES 4.5: the place of LAYOUT.
 pub data WrongField (job : Bytes) : ℕ → Type 0 where
   weights-offset : word job 6 ≢ 12 → WrongField job 6
   states-offset : word job 6 ≡ 12 → word job 8 ≢ 12 + 2 * width job → WrongField job 8
@@ -32,13 +32,13 @@ pub data WrongField (job : Bytes) : ℕ → Type 0 where
   bytes-lent : word job 6 ≡ 12 → word job 8 ≡ 12 + 2 * width job → word job 10 ≡ 12 + 2 * width job + rows job * width job →
       length job ≢ 12 + 2 * width job + rows job * width job → WrongField job 12
 
--- Row p is the 129th type: it equals no row before it, and the rows before it are of 128 types.
+-- RULES 4.7: the place of TYPES.
 pub record Type129 (rs : List Row) (p : ℕ) : Type 0 where
   pub below : p < length rs
   pub new : (i : ℕ) → i < p → rowAt rs i ≢ rowAt rs p
   pub before : length (sampled (take p rs)) ≡ 128
 
--- The table: given when.
+-- RULES 4.3: the case of each refusal.
 abbrev pub Condition : Lent → Bytes → Answer → Type 0
 Condition lent job (Done used) = ⊥
 Condition lent job Area = (((lent .result < 57680) ⊎ (lent .states < 8192)) ⊎ (lent .distances < 16384)) ⊎ (lent .links < 8128)
@@ -52,7 +52,7 @@ Condition lent job (Types row) = Type129 (jobRows job) row
 Condition lent job (Room round) = Runs job (full round)
 Condition lent job Split = (run : Run) × Runs job (settled run) × ¬ JoinsAll (phaseTwo (weights job) run)
 
--- The order in which they are tried: the table's first column.
+-- RULES 4.2: the order in which they are tried.
 abbrev pub order : Answer → ℕ
 order (Done used) = 0
 order Area = 1
@@ -66,6 +66,6 @@ order (Types row) = 8
 order (Room round) = 9
 order Split = 10
 
--- A refusal's turn: its condition holds, and none that is tried before it does.
+-- RULES 4.2: a refusal's turn: its condition holds, and none that is tried before it does.
 abbrev pub Due : Lent → Bytes → Answer → Type 0
 Due lent job a = Condition lent job a × ((b : Answer) → order b < order a → ¬ Condition lent job b)

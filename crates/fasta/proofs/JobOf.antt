@@ -113,7 +113,7 @@ module _ (e : ℕ) (text : Bytes) (r : Readable text) where
       let h : sequences text * widthOf text ≤ 256 * 64 = mul-le-mul (r .few) (r .narrow) in
       omega (arith, length-job, r .narrow)
 
-  -- Every state is one of some sequence, and so within document 01's bounds.
+  -- Every state is one of some sequence, and so within the bounds of RULES 1.4.
   state-within : (i : ℕ) → i < sequences text * widthOf text → Within 33 126 (getD (jobOf e text) (12 + 2 * widthOf text + i) 0)
   state-within i h =
       let l : i < length (statesOf text) = rw length-states h in
@@ -121,7 +121,7 @@ module _ (e : ℕ) (text : Bytes) (r : Readable text) where
       let (k, b, g) = in-gather x (sequences text) (sequence text) .0 (in-at (statesOf text) i 0 l) in
       rw (stands-getD (states-stand e text) i 0 l) (states-within text (length text) k x (r .clear) g)
 
-  -- Every test of document 01 lets the job pass.
+  -- Each of checks 2 to 7 lets the job pass.
   conversion : Passed (jobOf e text)
   conversion = record {
     head = omega (arith, length-job);

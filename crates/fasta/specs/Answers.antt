@@ -1,5 +1,4 @@
--- What a FASTA text is answered: the number, the place and the bytes used of each answer. A success has number 0, place 0 and the bytes of
--- the block; a refusal its number, its place and no bytes.
+-- RULES 18.6: what the answer to a FASTA text says.
 use mathlib.Core.Bool.{Bool, true, false, not}
 use Prim.Native.Nat.{ℕ}
 use lib.Dec.{eqb}
@@ -8,6 +7,7 @@ use Rattle.answers.specs.declared.Told.{Told}
 use Rattle.fasta.specs.declared.conversion.Conversion.{Conversion}
 use Rattle.fasta.specs.declared.conversion.Conversion.the-variants.{Done, Short, Before, Byte, Wide, Many, Empty, Uneven}
 
+-- RULES 18.6, 18.7: the number of each answer; 0 is a success.
 abbrev pub conversionNumber : Conversion → ℕ
 conversionNumber (Done used) = 0
 conversionNumber Short = 20
@@ -18,7 +18,7 @@ conversionNumber (Many place) = 24
 conversionNumber (Empty place) = 25
 conversionNumber (Uneven place) = 26
 
--- 21 to 24 are placed by byte, 25 and 26 by sequence.
+-- RULES 18.7: its place: a byte for 21 to 24, a sequence for 25 and 26.
 abbrev pub conversionPlace : Conversion → ℕ
 conversionPlace (Done used) = 0
 conversionPlace Short = 0
@@ -29,6 +29,7 @@ conversionPlace (Many byte) = byte
 conversionPlace (Empty sequence) = sequence
 conversionPlace (Uneven sequence) = sequence
 
+-- RULES 18.6: the bytes used, which only a success has.
 abbrev pub conversionUsed : Conversion → ℕ
 conversionUsed (Done used) = used
 conversionUsed Short = 0
@@ -39,12 +40,13 @@ conversionUsed (Many place) = 0
 conversionUsed (Empty place) = 0
 conversionUsed (Uneven place) = 0
 
+-- RULES 18.6: the three numbers together.
 abbrev pub ToldConversion : Conversion → Told → Type 0
 ToldConversion conversion r = Tells (conversionNumber conversion) (conversionPlace conversion) (conversionUsed conversion) r
 
 abbrev pub refuses : Conversion → Bool
 refuses conversion = not (eqb (conversionNumber conversion) 0)
 
--- No fault so far, and nothing is used yet.
+-- RULES 18.6: no fault so far, and no bytes used yet.
 abbrev pub noFault : Conversion
 noFault = Done 0

@@ -1,4 +1,4 @@
--- The job block that a FASTA text and an epsilon are turned into.
+-- RULES 18.1: the job block that is made of a FASTA text and an epsilon.
 use mathlib.Core.List.{List, [], _∷_, _++_}
 use Prim.Native.Nat.{ℕ, _+_, _*_}
 use lib.ListN.{length, replicate}
@@ -8,15 +8,15 @@ use Rattle.rules.specs.Job.{Bytes}
 use Rattle.rules.specs.Result.{words}
 use Rattle.fasta.specs.Sequences.{sequences, sequence}
 
--- The six numbers, as document 01's job block has them: rows n, width m, epsilon, and three that must be 12, 12 + 2m and 12 + 2m + nm.
+-- RULES 2.1, 18.1: the header.
 abbrev pub jobHeader : ℕ → ℕ → ℕ → List ℕ
 jobHeader n m epsilon = n ∷ m ∷ epsilon ∷ jobHead ∷ (jobHead + 2 * m) ∷ (jobHead + 2 * m + n * m) ∷ []
 
--- All weights 1.
+-- RULES 18.1: every weight is 1.
 unfoldable pub weightsOf : ℕ → Bytes
 weightsOf m = words (replicate m 1)
 
--- Each sequence is a row, in order; sequence 0 gives the width.
+-- RULES 18.1: the block: header, weights, and the sequences as rows.
 unfoldable pub jobOf : ℕ → Bytes → Bytes
 jobOf epsilon text =
     let n = sequences text in

@@ -1,4 +1,4 @@
--- How far a text is read: what one step hands to the next, and what is handed back.
+-- How far the code has read a text: what one step hands to the next, and what comes back. No rule of its own.
 use mathlib.Core.Path.{_≡_}
 use mathlib.Core.Bool.{cond}
 use Prim.Native.Nat.{ℕ, suc, _≤_, _<_}

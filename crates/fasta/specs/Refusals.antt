@@ -1,4 +1,4 @@
--- The refusals 21 to 26, told from the text alone.
+-- RULES 18.7 and 18.8: the refusals 21 to 26, for which the text alone is looked at.
 use mathlib.Core.Bool.{Bool, not, _&&_}
 use Prim.Native.Nat.{ℕ, suc, _-_}
 use lib.Dec.{ltb, eqb}
@@ -13,31 +13,31 @@ use Rattle.fasta.specs.declared.conversion.Conversion.{Conversion}
 use Rattle.fasta.specs.declared.conversion.Conversion.the-variants.{Before, Byte, Wide, Many, Empty, Uneven}
 use Rattle.fasta.specs.Sequences.{opened, joined, sequences, sequence}
 
--- ── Met in reading order, placed by byte ──
+-- ── Met while reading; the place is a byte ──
 
--- 21 text before the first `>`.
+-- RULES 18.7 (21): text, and no sequence is open yet.
 abbrev pub beforeFirst : Bytes → ℕ → Bool
 beforeFirst text i = isState text i && eqb (opened text i) 0
 
--- 22 a byte outside 33 to 126 in a sequence.
+-- RULES 18.7 (22): a byte of a sequence, and no state of RULES 1.4.
 abbrev pub inSome : Bytes → ℕ → Bool
 inSome text i = isState text i && ltb 0 (opened text i)
 
 abbrev pub badByte : Bytes → ℕ → Bool
 badByte text i = inSome text i && outside firstState lastState (byteAt text i)
 
--- 23 a 65th state: with this one its sequence has more than 64.
+-- RULES 18.7 (23): with this state its sequence has more than 64.
 abbrev pub held : Bytes → ℕ → ℕ
 held text i = length (joined text i (opened text i - 1))
 
 abbrev pub oneTooWide : Bytes → ℕ → Bool
 oneTooWide text i = inSome text i && ltb mostWidth (suc (held text i))
 
--- 24 a 257th sequence: with the one that is opened here there are more than 256.
+-- RULES 18.7 (24): with the sequence that is opened here there are more than 256.
 abbrev pub oneTooMany : Bytes → ℕ → Bool
 oneTooMany text i = opens text i && ltb mostRows (suc (opened text i))
 
--- At one byte the smaller number is given.
+-- RULES 18.8: the fault of a byte, the lowest number first.
 abbrev pub faultAt : Bytes → ℕ → Conversion
 faultAt text i =
     when beforeFirst text i refuse Before i else
@@ -46,21 +46,21 @@ faultAt text i =
     when oneTooMany text i refuse Many i else
     noFault
 
--- The first byte with a fault, or the text's length where there is none.
+-- RULES 18.8: the first byte at fault, or the length of the text if none is.
 unfoldable pub firstFault : Bytes → ℕ
 firstFault text = first (length text) (λ i. refuses (faultAt text i))
 
--- ── Asked after reading, placed by sequence from 0 ──
+-- ── Asked when all is read; the place is a sequence ──
 
--- 25 the first empty one.
+-- RULES 18.7 (25): the first sequence without states, or their count if there is none.
 unfoldable pub firstEmpty : Bytes → ℕ
 firstEmpty text = first (sequences text) (λ k. eqb (length (sequence text k)) 0)
 
--- 26 the first whose length differs from sequence 0.
+-- RULES 18.7 (26): the first sequence that is longer or shorter than sequence 0, or their count if there is none.
 unfoldable pub firstUneven : Bytes → ℕ
 firstUneven text = first (sequences text) (λ k. not (eqb (length (sequence text k)) (length (sequence text 0))))
 
--- The first fault met in reading order; after reading, 25 for no sequence (place 0) or the first empty one, then 26.
+-- RULES 18.8: a fault met while reading; else 25, and 26 last.
 unfoldable pub checkedText : Bytes → Conversion
 checkedText text =
     when ltb (firstFault text) (length text) refuse faultAt text (firstFault text) else

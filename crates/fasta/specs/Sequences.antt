@@ -1,4 +1,4 @@
--- The sequences of a FASTA text.
+-- RULES 18.4: the sequences of a FASTA text.
 use mathlib.Core.Bool.{Bool, _&&_}
 use Prim.Native.Nat.{ℕ, suc}
 use lib.Dec.{eqb}
@@ -7,25 +7,25 @@ use Rattle.graph.specs.Below.{gather, only, count}
 use Rattle.rules.specs.Job.{Bytes, Row}
 use Rattle.fasta.specs.Lines.{byteAt, opens, isState}
 
--- How many sequences are opened before a byte.
+-- RULES 18.4: how many sequences are opened before a byte.
 abbrev pub opened : Bytes → ℕ → ℕ
 opened text i = count i (opens text)
 
--- A state belongs to the sequence that was opened last; they are numbered from 0.
+-- RULES 18.4: a state of sequence k: that one was opened last.
 abbrev pub inSequence : Bytes → ℕ → ℕ → Bool
 inSequence text k i = isState text i && eqb (opened text i) (suc k)
 
--- The lines up to the next `>` are joined: the states of sequence k that stand before byte i, one behind the other.
+-- RULES 18.4: the states of sequence k that stand before byte i, put together.
 unfoldable pub joined : Bytes → ℕ → ℕ → Row
 joined text i k = gather i (λ j. only (inSequence text k j) (byteAt text j))
 
--- Of the whole text: how many sequences there are, and each of them.
+-- RULES 18.4: how many sequences the whole text has, and each of them.
 abbrev pub sequences : Bytes → ℕ
 sequences text = opened text (length text)
 
 abbrev pub sequence : Bytes → ℕ → Row
 sequence text k = joined text (length text) k
 
--- All states of the text, one behind the other.
+-- RULES 18.4: the states of all sequences, put together.
 unfoldable pub states : Bytes → Row
 states text = gather (length text) (λ i. only (isState text i) (byteAt text i))

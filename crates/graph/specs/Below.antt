@@ -1,4 +1,4 @@
--- The numbers below n, counted up from 0: what is said of all of them, and what is made of them.
+-- RULES 1.7: the numbers below n, counted up from 0: what is said of all of them, and what is made of them.
 -- Whatever a definition says in a row, of nodes, of characters or of bytes, it says by one of these.
 use mathlib.Core.Bool.{Bool, true, false, cond, _&&_, _||_}
 use mathlib.Core.List.{List, [], _∷_, _++_}

@@ -1,4 +1,4 @@
--- Trees over the nodes below n, what they cost, and the cheapest of them.
+-- RULES 19.3: trees over the nodes below n, what they cost, and the cheapest of them.
 use mathlib.Core.Path.{_≡_}
 use mathlib.Core.Logic.{_⊎_}
 use mathlib.Core.List.{List, [], _∷_}

@@ -1,4 +1,4 @@
--- Walks. A chain of short steps is a walk, and so is a path along links.
+-- RULES 7.1: walks. A chain of short steps is a walk, and so is a path along links.
 use mathlib.Core.Path.{_≡_}
 use Prim.Native.Nat.{ℕ}
 

@@ -47,7 +47,7 @@ module _ (job block : Bytes) (a : Answer) where
   unfolding printedAs
   printed-by lent = refl
 
--- A call, and then the text by what was told of it: the text that document 01 prints.
+-- A call, and then the text by what was told of it: the text of the rules.
 module _ {job result states : Bytes} {distances : List ℕ} {links : List Link} {r : Told} {result′ states′ : Bytes} {distances′ : List ℕ} {links′ : List Link}
     {lent : ℕ} {out : Bytes} {t : Told} (c : CallTold job result states distances links r result′ states′ distances′ links′)
     (x : TextTold job result′ (r .number) (r .place) lent out t) where

@@ -8,7 +8,7 @@ use rules::MOST_LINKS;
 use rules::RESULT_AREA;
 use rules::STATE_AREA;
 
-// Check 1: no lent area is shorter than document 01 asks.
+// Check 1: no lent area is shorter than RULES 3.1 asks.
 pub fn check_areas(result: usize, states: usize, distances: usize, links: usize) -> Answer
     ensures { λ r. ⌜ r ≡ areasAnswer (lengths result states distances links) ⌝ }
 {

@@ -28,8 +28,8 @@ markOf e distance span = cond (leb distance (span + e)) 1 0
 abbrev pub mark : ℕ → List ℕ → List ℕ → ℕ → ℕ → ℕ
 mark e spans area i j = markOf e (cellAt area i j) (cellAt spans i j)
 
--- The links of n types at epsilon are found: a pair is marked exactly if no chain of types leads from one to the other with every
--- step's distance plus epsilon below the pair's. Every cell but the mirror cells of the n types is as it was.
+-- RULES 7.2: the links of n types at epsilon are found: a pair is marked exactly if it is linked. Every cell but the mirror cells of the n
+-- types is as it was.
 pub record LinksFound (n e : ℕ) (before after : List ℕ) : Type 0 where
   pub size : length after ≡ length before
   pub linked : (i j : ℕ) → i < j → j < n → (cellAt after j i ≡ 1) ↔ Feasible n (between before) e i j

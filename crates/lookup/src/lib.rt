@@ -64,7 +64,7 @@ fn place_in(job: &[u8], block: &[u8], number: usize) -> Place
     }
 }
 
-// Where the states of a type lie, or nowhere where document 01 hands back none.
+// Where the states of a type lie, or nowhere where the rules hand back none (RULES 14.2).
 pub fn place_of(job: &[u8], block: &[u8], number: usize) -> Place
     ensures { λ r. ⌜ Points (now (job .entry)) (now (block .entry)) number r ⌝ }
 {
@@ -102,7 +102,7 @@ pub fn states_in<'a>(job: &'a [u8], block: &'a [u8], number: usize) -> &'a [u8]
     part_at(job, block, number, place_in(job, block, number))
 }
 
-// The states of a type, or an empty part where document 01 hands back none.
+// The states of a type, or an empty part where the rules hand back none (RULES 14.2).
 pub fn states_of<'a>(job: &'a [u8], block: &'a [u8], number: usize) -> &'a [u8]
     ensures { λ r. ⌜ now r ≡ lookup (now (job .entry)) (now (block .entry)) number ⌝ }
 {

@@ -1,6 +1,6 @@
-// The room of the purge: obsolete types go together, links are found afresh, until none is obsolete. A type that goes is retired:
-// its row moves behind the rows of all types made and stays known. Its corners: the run's small state (`state`), which types stay
-// (`stay`), what is left when the others go (`retire`). It writes the state area and the distance area.
+// The room of the purge (RULES 8): pass after pass, until nothing is obsolete. A type that goes is retired: its row moves behind the rows
+// of all types made and stays known. Its corners: the run's small state (`state`), which types stay (`stay`), what is left when the others
+// go (`retire`). It writes the state area and the distance area.
 
 pub mod retire;
 pub mod state;
@@ -21,7 +21,7 @@ use crate::stay::Stay;
 use crate::stay::survivors;
 use links::find_links;
 
-// The obsolete types go together; those at the places of `stay` stay.
+// RULES 8.2: one pass. The types at the places of `stay` stay, the others go.
 fn purge_once(states: &mut [u8], area: &mut [u16], held: Held, stay: Stay) -> Held
     requires { ⌜ Chosen (stay .kept) (stay .count) (held .state .types) × (held .state .types ≤ held .state .made) × (held .state .made ≤ mostTypes) × (stateArea ≤ length (now states)) × (distanceArea ≤ length (now area)) ⌝ }
     ensures { λ r. ⌜ Once (now (states .entry)) (now (area .entry)) held stay (now (states .exit)) (now (area .exit)) r ⌝ }
@@ -51,7 +51,7 @@ fn survey(area: &mut [u16], held: Held) -> Stay
     survivors(area, types, kinds)
 }
 
-// All obsolete types go together, links are found afresh, and this repeats until none is obsolete.
+// RULES 8.2: passes until nothing is obsolete, each with links of its own.
 pub fn purge(states: &mut [u8], area: &mut [u16], held: Held) -> Held
     requires { ⌜ (held .state .types ≤ held .state .made) × (held .state .made ≤ mostTypes) × (epsilonOf (held .state .phase) ≤ 65535) × (stateArea ≤ length (now states)) × (distanceArea ≤ length (now area)) ⌝ }
     ensures { λ r. ⌜ Purged (now (states .entry)) (now (area .entry)) held (now (states .exit)) (now (area .exit)) r ⌝ }

@@ -1,5 +1,5 @@
-// The corner of the run's small state: its counts, its round and its phase. Each method takes the state of the run and hands back the next
-// one. It touches no memory.
+// The corner of the run's small state: its counts, its round and its phase. Each method gives back the next state (RULES 20.3). It
+// touches no memory.
 
 ghost use mathlib.Core.Path.{_≡_};
 ghost use Prim.Native.Nat.{_+_, _≤_};

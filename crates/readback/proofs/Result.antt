@@ -161,7 +161,7 @@ module _ (lent : Lent) (job : Bytes) (net : Network) (e : verdict lent job ≡ f
   unfolding answer
   answer-is = rw e
 
-  -- The bytes used, as document 01 counts them.
+  -- The bytes used, as RULES 13.6 counts them.
   pub used-is : used (answer lent job) ≡ blockLength (length (net .types)) (length (sampled (jobRows job))) (width job) (length (net .links))
   used-is = rw (answer-is, ← sampled-count job net writable) (length-block (width job) net (wide job net writable))
 

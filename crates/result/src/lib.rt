@@ -1,4 +1,4 @@
-// The room of the result block: the network that a run left in memory is written as the rules lay it out. Here is its front, up to the
+// The room of the result block: the network that a run left in memory is written as RULES 13 lays it out. Here is its front, up to the
 // links, with the records and rows of its corner `records`; the links go in their order (`ordered`) to the link table and from there to the
 // result (`table`). It reads the state area, the distance area and what is held by value.
 

@@ -1,5 +1,5 @@
-// The room of the round: it takes the state of the run and hands back the next one. The new types stand behind the current ones;
-// the rows of the retired ones move up. Its corners choose the rows that are added: two sweeps (`candidates`), the order of the rows
+// The room of the round (RULES 11): from one state of the run to the next. The new types stand behind the current ones; the rows of the
+// retired ones move up. Its corners choose the rows that are added: two sweeps (`candidates`), the order of the rows
 // (`ascending`), and the memory that both need (`fresh`). It writes the state area and the distance area.
 
 pub mod ascending;

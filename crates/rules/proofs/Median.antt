@@ -1,5 +1,5 @@
--- The connection cost is the same for all three median vectors of a triplet: character by character, a state held by two or more is
--- taken by all three; where all three differ, each vector is one weight away from two of the rows.
+-- RULES 10.3: the three median vectors of a triplet have one connection cost. Character by character: where two rows agree, the three
+-- vectors do too; where no two agree, each vector is one weight away from two of the rows.
 use mathlib.Core.Path.{_≡_, refl, sym, ap, _∙_}
 use mathlib.Core.Logic.{_⊎_, inl, inr}
 use mathlib.Core.Bool.{Bool, true, false, cond}

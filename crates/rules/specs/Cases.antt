@@ -1,5 +1,5 @@
--- Networks to compare with: the P cases of document 01 as one table, and a few jobs on which slips show that the P cases do not see (their texts come from an
--- independent program). proofs/Table.antt proves the table by one claim.
+-- RULES 16.1: the P cases as one table, the bounds of some refusals, and a few jobs on which slips show that the P cases do not see (an
+-- independent program gave their texts). One claim of proofs/Table.antt proves the table.
 use mathlib.Core.Bool.{Bool, true, false, _&&_, not}
 use mathlib.Core.List.{List, [], _∷_, _++_}
 use Prim.Native.Nat.{ℕ, _+_, _*_}
@@ -14,13 +14,14 @@ use Rattle.rules.specs.Result.{words}
 use Rattle.rules.specs.Call.{written, verdict}
 use Rattle.rules.specs.Text.{text, printed}
 
--- A job block of rows, weights and epsilon.
+-- RULES 2, 16.1: a job block, written from rows, weights and epsilon.
 unfoldable pub job : List String → List ℕ → ℕ → Bytes
 job rows ws e =
     let n = length rows in
     let m = length ws in
     words (n ∷ m ∷ e ∷ 12 ∷ (12 + 2 * m) ∷ (12 + 2 * m + n * m) ∷ []) ++ words ws ++ gather n (λ k. text (getD rows k ""))
 
+-- RULES 16.1: three kinds of cases.
 infix 2 _prints_ _writes_
 pub data Case : Type 0 where
   -- the job is answered by this text
@@ -34,6 +35,7 @@ abbrev same : Bool → Bool → Bool
 same true b = b
 same false b = not b
 
+-- RULES 16.1: a case holds, and so do all of a list.
 unfoldable pub holds : Case → Bool
 holds (b prints s) = sameRow (printed least b) (text s)
 holds (b writes xs) = sameRow (written (width b) (verdict least b)) xs
@@ -52,6 +54,7 @@ p7 = job ("A100" ∷ "B010" ∷ "C001" ∷ []) (1 ∷ 1 ∷ 1 ∷ 1 ∷ []) 0
 abbrev p8 : ℕ → Bytes
 p8 e = job ("00" ∷ "01" ∷ "11" ∷ []) (1 ∷ 1 ∷ []) e
 
+-- RULES 16.1: the table.
 unfoldable pub cases : List Case
 cases =
     -- P1, P2, P3, P4
@@ -66,7 +69,7 @@ cases =
     -- the result blocks of P5 and P7, byte by byte
     ∷ (p5 0 writes (4 ∷ 0 ∷ 3 ∷ 0 ∷ 3 ∷ 0 ∷ 3 ∷ 0 ∷ 1 ∷ 0 ∷ 16 ∷ 0 ∷ 40 ∷ 0 ∷ 43 ∷ 0 ∷ 1 ∷ 0 ∷ 0 ∷ 0 ∷ 0 ∷ 0 ∷ 1 ∷ 0 ∷ 1 ∷ 0 ∷ 0 ∷ 0 ∷ 1 ∷ 0 ∷ 2 ∷ 0 ∷ 0 ∷ 0 ∷ 0 ∷ 0 ∷ 0 ∷ 0 ∷ 1 ∷ 0 ∷ 49 ∷ 49 ∷ 49 ∷ 0 ∷ 0 ∷ 3 ∷ 0 ∷ 1 ∷ 0 ∷ 1 ∷ 0 ∷ 3 ∷ 0 ∷ 1 ∷ 0 ∷ 2 ∷ 0 ∷ 3 ∷ 0 ∷ 1 ∷ 0 ∷ []))
     ∷ (p7 writes (6 ∷ 0 ∷ 3 ∷ 0 ∷ 4 ∷ 0 ∷ 6 ∷ 0 ∷ 1 ∷ 0 ∷ 16 ∷ 0 ∷ 52 ∷ 0 ∷ 64 ∷ 0 ∷ 1 ∷ 0 ∷ 0 ∷ 0 ∷ 0 ∷ 0 ∷ 1 ∷ 0 ∷ 1 ∷ 0 ∷ 0 ∷ 0 ∷ 1 ∷ 0 ∷ 2 ∷ 0 ∷ 0 ∷ 0 ∷ 0 ∷ 0 ∷ 0 ∷ 0 ∷ 1 ∷ 0 ∷ 0 ∷ 0 ∷ 1 ∷ 0 ∷ 1 ∷ 0 ∷ 0 ∷ 0 ∷ 2 ∷ 0 ∷ 1 ∷ 0 ∷ 65 ∷ 48 ∷ 48 ∷ 48 ∷ 66 ∷ 48 ∷ 48 ∷ 48 ∷ 67 ∷ 48 ∷ 48 ∷ 48 ∷ 0 ∷ 0 ∷ 3 ∷ 0 ∷ 1 ∷ 0 ∷ 1 ∷ 0 ∷ 4 ∷ 0 ∷ 1 ∷ 0 ∷ 2 ∷ 0 ∷ 5 ∷ 0 ∷ 1 ∷ 0 ∷ 3 ∷ 0 ∷ 4 ∷ 0 ∷ 1 ∷ 0 ∷ 3 ∷ 0 ∷ 5 ∷ 0 ∷ 1 ∷ 0 ∷ 4 ∷ 0 ∷ 5 ∷ 0 ∷ 1 ∷ 0 ∷ []))
-    -- P8: the pair 0-2 is feasible at epsilon 1 and not at 0; the network is drawn at epsilon 0, whatever the job's epsilon
+    -- P8, and P8 at epsilon 1, which is drawn alike: the last links are those at epsilon 0; then the pair 0-2 at both epsilons
     ∷ (p8 0 prints "types 3 sampled 3 links 2 rounds 0\nT 0 S 1 00\nT 1 S 1 01\nT 2 S 1 11\nL 0 1 1\nL 1 2 1\n")
     ∷ (p8 1 prints "types 3 sampled 3 links 2 rounds 0\nT 0 S 1 00\nT 1 S 1 01\nT 2 S 1 11\nL 0 1 1\nL 1 2 1\n")
     ∷ links (p8 0) 1 0 2 true

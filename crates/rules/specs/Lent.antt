@@ -1,20 +1,20 @@
--- Lent memory: how long each area is, and the refusal 1. What the areas held before is not asked.
+-- RULES 3: how much memory is lent. Nothing here asks what it held before (3.4).
 use mathlib.Core.Bool.{Bool, _||_}
 use Prim.Native.Nat.{ℕ}
 use lib.Dec.{ltb}
 use Rattle.rules.specs.Sizes.{mostLinks, resultArea, stateArea, distanceArea}
 
--- The lengths lent: result bytes, state bytes, distances, links.
+-- RULES 3.1: the length of each area: bytes, bytes, distances, links.
 pub record Lent : Type 0 where
   pub result : ℕ
   pub states : ℕ
   pub distances : ℕ
   pub links : ℕ
 
--- The least that may be lent.
+-- RULES 3.1: the least lengths.
 abbrev pub least : Lent
 least = record { result = resultArea; states = stateArea; distances = distanceArea; links = mostLinks }
 
--- A lent area is shorter than 57,680 bytes, 8,192 bytes, 16,384 numbers or 8,128 records.
+-- RULES 4.3 (AREA): some area falls short of its least length.
 unfoldable pub areaShort : Lent → Bool
 areaShort lent = ltb (lent .result) resultArea || ltb (lent .states) stateArea || ltb (lent .distances) distanceArea || ltb (lent .links) mostLinks

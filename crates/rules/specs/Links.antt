@@ -1,4 +1,4 @@
--- Feasible link.
+-- RULES 7: feasible links.
 use mathlib.Core.Path.{_≡_}
 use mathlib.Core.Logic.{_⊎_}
 use mathlib.Core.Bool.{Bool, cond, _&&_, _||_}
@@ -13,13 +13,11 @@ use Rattle.rules.specs.Job.{Row}
 use Rattle.rules.specs.Distance.{apart}
 use Rattle.rules.specs.declared.Link.{Link}
 
--- Two current types at distance d are linked at epsilon exactly if no chain of current types leads from one to the other with
--- every step's distance plus epsilon below d. These are the words to believe.
+-- RULES 7.2: no chain of short steps leads from type i to type j. This is what to believe; `Feasible` of `graph` says it of any nodes.
 abbrev pub FeasibleLink : List ℕ → ℕ → List Row → ℕ → ℕ → Type 0
 FeasibleLink ws e rs i j = Feasible (length rs) (apart ws rs) e i j
 
--- All links of the current types, by a test that computes; proofs/Links.antt shows that they are the feasible ones.
--- They ascend by lower, then higher number, each once.
+-- RULES 7.3, 7.4: the list of all links, found by a test that computes. proofs/Links.antt shows that they are those of 7.2.
 unfoldable pub linksAt : List ℕ → ℕ → List Row → List Link
 linksAt ws e rs =
     let n = length rs in
@@ -29,14 +27,14 @@ linksAt ws e rs =
 abbrev pub linkAt : List Link → ℕ → Link
 linkAt ls k = getD ls k (record { low = 0; high = 0; length = 0 })
 
--- A link lies between two types, whichever of them is the lower number; it stands before another by lower, then higher number.
+-- RULES 7.4: a link lies between two types, named in either order; one link is listed before another.
 abbrev pub Between : Link → ℕ → ℕ → Type 0
 Between l u v = ((l .low ≡ u) × (l .high ≡ v)) ⊎ ((l .low ≡ v) × (l .high ≡ u))
 
 abbrev pub Before : Link → Link → Type 0
 Before l m = (l .low < m .low) ⊎ ((l .low ≡ m .low) × (l .high < m .high))
 
--- A link names its two types; two types are linked where some link names both.
+-- RULES 7.5: a link names a type; some link names both of two types; how many links name a type.
 abbrev pub names : Link → ℕ → Bool
 names l i = eqb (l .low) i || eqb (l .high) i
 
@@ -46,7 +44,7 @@ linked ls i j = some (length ls) (λ k. names (linkAt ls k) i && names (linkAt l
 abbrev pub linkCount : List Link → ℕ → ℕ
 linkCount ls i = count (length ls) (λ k. names (linkAt ls k) i)
 
--- The links join all of n types: between any two a chain leads that takes no step but along a link.
+-- RULES 4.8: do the links join all of n types? A pair that has no link is 1 apart, any other 0; joined types have spans of 0 only.
 abbrev pub unlinked : List Link → ℕ → ℕ → ℕ
 unlinked ls i j = cond (eqb i j || linked ls i j) 0 1
 

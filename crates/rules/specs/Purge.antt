@@ -1,4 +1,4 @@
--- Purge.
+-- RULES 8: the purge.
 use mathlib.Core.Path.{_≡_}
 use mathlib.Core.Bool.{Bool, true, false, cond, not, _&&_}
 use mathlib.Core.List.{List, _++_}
@@ -11,21 +11,21 @@ use Rattle.rules.specs.Types.{Node, inferred, nodeAt, rowsOf}
 use Rattle.rules.specs.Links.{linksAt, linkCount}
 use Rattle.rules.specs.declared.Link.{Link}
 
--- The state of the run: the current types in order of making, the rows of the retired ones, the rounds that added a type.
+-- RULES 5.4, 12.4: where a run stands: its current types, the oldest first, the rows of its retired types, its count of rounds.
 pub record Run : Type 0 where
   pub current : List Node
   pub retired : List Row
   pub rounds : ℕ
 
--- The feasible links of the current types.
+-- RULES 8.1: the links among the current types.
 abbrev pub linksOf : List ℕ → ℕ → Run → List Link
 linksOf ws e run = linksAt ws e (rowsOf (run .current))
 
--- An inferred type with at most two feasible links is obsolete. Sampled types never go.
+-- RULES 8.1, 8.3: too few links, and not sampled.
 abbrev pub obsolete : List Node → List Link → ℕ → Bool
 obsolete ts ls i = inferred (nodeAt ts i .origin) && leb (linkCount ls i) 2
 
--- All obsolete types go together. A purged type is retired.
+-- RULES 8.2, 8.4: one pass. Whatever is obsolete by these links leaves the current types and is retired.
 unfoldable pub purgeOnce : List Link → Run → Run
 purgeOnce ls run =
     let ts = run .current in
@@ -38,13 +38,13 @@ purgeOnce ls run =
 abbrev pub someObsolete : List Link → Run → Bool
 someObsolete ls run = some (length (run .current)) (obsolete (run .current) ls)
 
--- All obsolete types go together, links are found afresh, and this repeats until none is obsolete. These are the words to believe.
+-- RULES 8.2: passes, each with links of its own, until one finds nothing obsolete. This is what to believe.
 pub data Purges (ws : List ℕ) (e : ℕ) : Run → Run → Type 0 where
   none : {run : Run} → someObsolete (linksOf ws e run) run ≡ false → Purges ws e run run
   again : {run purged : Run} → someObsolete (linksOf ws e run) run ≡ true → Purges ws e (purgeOnce (linksOf ws e run) run) purged → Purges ws e run purged
 
--- The same computed, at most so many times over. Each time takes a type away, so as many times as there are types are enough:
--- proofs/Ends.antt shows that purge does what the words above say.
+-- RULES 8.2, computed: so many passes at most. A pass takes out a type or is the last one, so there are never more than types.
+-- proofs/Ends.antt shows that purge does what Purges says.
 unfoldable pub purgeTimes : ℕ → List ℕ → ℕ → Run → Run
 purgeTimes zero ws e run = run
 purgeTimes (suc times) ws e run =

@@ -1,4 +1,4 @@
--- The run.
+-- RULES 12: the run, from the sampled types to the network.
 use mathlib.Core.Path.{_≡_}
 use mathlib.Core.Logic.{_≢_}
 use mathlib.Core.Bool.{Bool, cond, not}
@@ -15,19 +15,20 @@ use Rattle.rules.specs.Round.{made, offers, added}
 use Rattle.rules.specs.declared.Link.{Link}
 use Rattle.rules.specs.declared.Origin.the-variants.{Inferred}
 
--- Phase I ends because there is no candidate, or because the round of this number would bring the types ever made above 128.
+-- RULES 12.1, 12.2: how Phase I ends: without a candidate, or for want of room in the round of this number.
 pub data Outcome : Type 0 where
   settled : Run → Outcome
   full : ℕ → Outcome
 
+-- RULES 12.1: what the run begins with.
 abbrev pub start : List Row → Run
 start rs = record { current = sampled rs; retired = []; rounds = 0 }
 
--- The rows that the next round adds.
+-- RULES 11.4: the rows that the next round adds.
 abbrev pub fresh : List ℕ → ℕ → Run → List Row
 fresh ws e run = added e (offers ws e run)
 
--- A round takes the state of the run and hands back the next one, in which the new types stand behind the current ones.
+-- RULES 11.5, 12.4: the run after a round that adds xs.
 unfoldable pub grown : List Row → Run → Run
 grown xs run =
     let round = run .rounds + 1 in
@@ -37,8 +38,8 @@ grown xs run =
       rounds = round;
     }
 
--- Phase I: links at epsilon, purge at epsilon, then a round, and again, until there is no candidate; a round that would bring the
--- types ever made above 128 has no room. These are the words to believe.
+-- RULES 12.1, 12.2: Phase I, round by round. Each turn purges; then there is no candidate, or no room, or a round and the next turn. This
+-- is what to believe.
 pub data PhaseOne (ws : List ℕ) (e : ℕ) : Run → Outcome → Type 0 where
   no-candidate : {run purged : Run} → Purges ws e run purged → offers ws e purged ≡ [] → PhaseOne ws e run (settled purged)
   no-room : {run purged : Run} → Purges ws e run purged → offers ws e purged ≢ [] →
@@ -46,8 +47,8 @@ pub data PhaseOne (ws : List ℕ) (e : ℕ) : Run → Outcome → Type 0 where
   round : {run purged : Run} {end : Outcome} → Purges ws e run purged → offers ws e purged ≢ [] →
       length (made purged) + length (fresh ws e purged) ≤ mostTypes → PhaseOne ws e (grown (fresh ws e purged) purged) end → PhaseOne ws e run end
 
--- The same computed, with at most so many rounds. Each round makes a type, and 128 are never passed, so 129 are more than can be:
--- proofs/Ends.antt shows that phaseOne does what the words above say.
+-- RULES 12.1, 12.2, computed: so many turns at most. A round makes a type, and no more than 128 are ever made, so 129 turns are enough.
+-- proofs/Ends.antt shows that phaseOne does what PhaseOne says.
 unfoldable pub phaseOneIn : ℕ → List ℕ → ℕ → Run → Outcome
 phaseOneIn zero ws e run = settled run
 phaseOneIn (suc rounds) ws e run =
@@ -61,18 +62,18 @@ phaseOneIn (suc rounds) ws e run =
 unfoldable pub phaseOne : List ℕ → ℕ → Run → Outcome
 phaseOne ws e run = phaseOneIn (suc mostTypes) ws e run
 
--- Kept types, the links between them, the rounds that added a type.
+-- RULES 12.3, 12.4: a network: the types that are left, their links, the count of rounds.
 pub record Network : Type 0 where
   pub types : List Node
   pub links : List Link
   pub rounds : ℕ
 
--- Phase II: links and purge at epsilon 0. The links left are the network.
+-- RULES 12.3: Phase II.
 unfoldable pub phaseTwo : List ℕ → Run → Network
 phaseTwo ws run =
     let purged = purge ws 0 run in
     record { types = purged .current; links = linksOf ws 0 purged; rounds = purged .rounds }
 
--- The final links don't join all kept types.
+-- RULES 4.3 (SPLIT): some kept type is not joined with the others.
 abbrev pub split : Network → Bool
 split net = not (joinAll (length (net .types)) (net .links))

@@ -1,4 +1,4 @@
--- The printed text: a line for the network, a line for each type and each link; a refusal is one line.
+-- RULES 15: the printed text.
 use mathlib.Core.Bool.{cond}
 use mathlib.Core.List.{[], _∷_, _++_}
 use Prim.Native.Char.{code}
@@ -20,12 +20,12 @@ use Rattle.rules.specs.declared.Link.{Link}
 use Rattle.rules.specs.declared.Origin.{Origin}
 use Rattle.rules.specs.declared.Origin.the-variants.{Sampled, Inferred}
 
--- The bytes of a text.
+-- RULES 15.1: the bytes of a text.
 unfoldable pub text : String → Bytes
 text S.[] = []
 text (S._∷_ c s) = code c ∷ text s
 
--- A number in decimals, of at most so many digits; n + 1 are more than it has (proofs/Decimals.antt).
+-- RULES 15.1: a number in decimals, of so many digits at most. It never has more than n + 1 (proofs/Decimals.antt).
 unfoldable pub digits : ℕ → ℕ → Bytes
 digits zero n = []
 digits (suc most) n =
@@ -35,10 +35,11 @@ digits (suc most) n =
 abbrev pub decimal : ℕ → Bytes
 decimal n = digits (suc n) n
 
+-- RULES 15.1: a word and a number behind it.
 abbrev pub say : String → ℕ → Bytes
 say s n = text s ++ decimal n
 
--- T: number, S with row count or I with round, states.
+-- RULES 15.2: the line of a type.
 abbrev pub originText : Origin → Bytes
 originText (Sampled rows first) = say " S " rows
 originText (Inferred round) = say " I " round
@@ -46,10 +47,11 @@ originText (Inferred round) = say " I " round
 unfoldable pub typeLine : ℕ → Node → Bytes
 typeLine k t = say "T " k ++ originText (t .origin) ++ text " " ++ t .row ++ text "\n"
 
--- L: lower, higher, length.
+-- RULES 15.3: the line of a link.
 unfoldable pub linkLine : Link → Bytes
 linkLine l = say "L " (l .low) ++ say " " (l .high) ++ say " " (l .length) ++ text "\n"
 
+-- RULES 15.1: all lines of a network.
 unfoldable pub networkText : Network → Bytes
 networkText net =
     let ts = net .types in
@@ -58,10 +60,11 @@ networkText net =
     ++ gather (length ts) (λ k. typeLine k (nodeAt ts k))
     ++ gather (length ls) (λ k. linkLine (linkAt ls k))
 
--- A refusal prints one line, `refused`, number, place.
+-- RULES 15.4: the line of a refusal, or the network's lines.
 abbrev pub verdictText : Verdict → Bytes
 verdictText (refused a) = say "refused " (number a) ++ say " " (place a) ++ text "\n"
 verdictText (found net) = networkText net
 
+-- RULES 15.1, 15.4: what a job prints.
 unfoldable pub printed : Lent → Bytes → Bytes
 printed lent job = verdictText (verdict lent job)

@@ -1,7 +1,7 @@
-// The room of document 01: its rules as definitions (specs/, a file for each of its headings) and the laws about them that
+// The room of the rules: docs/RULES.md as definitions (specs/, a file for each of its chapters, more or less) and the laws about them that
 // proofs cite (proofs/). It has no functions. Here stand the types and the sizes that the definitions share with the code.
 
-// Sizes, each under its name, once; specs/Sizes.antt and specs/Result.antt have the same.
+// RULES 1.6: sizes, each under its name, once; specs/Sizes.antt and specs/Result.antt have the same.
 // A job: its most rows, their most characters, the bounds of weights and states, the six numbers of its head, the largest block.
 pub const MOST_ROWS: usize = 256;
 
@@ -44,7 +44,7 @@ pub const STATE_AREA: usize = MOST_TYPES * ROW;
 
 pub const DISTANCE_AREA: usize = MOST_TYPES * LINE;
 
-// A type is either sampled, with its rows and first row, or inferred, with its round.
+// RULES 5.3: where a type comes from.
 pub enum Origin {
     Sampled { rows: usize, first: usize },
     Inferred { round: usize },
@@ -55,7 +55,7 @@ pub struct Kind {
     pub origin: Origin,
 }
 
-// A link: lower number, higher number, length. Laid out as in C, so that C programs can lend a table of them.
+// RULES 7.4: a link. Laid out as in C, so that C programs can lend a table of them.
 #[repr(C)]
 pub struct Link {
     pub low: u16,
@@ -63,7 +63,7 @@ pub struct Link {
     pub length: u16,
 }
 
-// What a job is answered: a network of so many bytes, or the refusals in the order they are tried.
+// RULES 4.1: what a job is answered: a network of so many bytes, or one of the refusals, which stand here in their order.
 pub enum Answer {
     Done { used: usize },
     Area,

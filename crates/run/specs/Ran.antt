@@ -1,4 +1,4 @@
--- The run of a job that passed checks 2 to 7, as document 01 has it.
+-- RULES 12: the run of a job that passed checks 2 to 7.
 use mathlib.Core.Path.{_≡_}
 use mathlib.Core.Logic.{_≢_}
 use mathlib.Core.List.{List}

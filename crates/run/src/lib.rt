@@ -23,7 +23,7 @@ use round::Turn;
 use round::round;
 use rules::Answer;
 
-// Links at epsilon, purge at epsilon, then a round.
+// RULES 12.1: one turn of Phase I: a purge, and then a round.
 fn turn(states: &mut [u8], area: &mut [u16], weights: &[u16], held: Held) -> Turn
     requires { ⌜ Safe (now weights) (now states) (now area) held ⌝ }
     ensures { λ r. ⌜ Turned (now (weights .entry)) (now (states .entry)) (now (area .entry)) held (now (states .exit)) (now (area .exit)) r ⌝ }
@@ -32,7 +32,7 @@ fn turn(states: &mut [u8], area: &mut [u16], weights: &[u16], held: Held) -> Tur
     round(states, area, weights, purged)
 }
 
-// Phase I: and again, until there is no candidate.
+// RULES 12.1: Phase I: turns, until one adds nothing.
 fn phase_one(states: &mut [u8], area: &mut [u16], weights: &[u16], held: Held) -> Turn
     requires { ⌜ Safe (now weights) (now states) (now area) held ⌝ }
     ensures { λ r. ⌜ PhaseOneOver (now (weights .entry)) (now (states .entry)) (now (area .entry)) held (now (states .exit)) (now (area .exit)) r ⌝ }
@@ -45,7 +45,7 @@ fn phase_one(states: &mut [u8], area: &mut [u16], weights: &[u16], held: Held) -
     now
 }
 
-// Phase I, or no room in one of its rounds; and Phase II: links and purge at epsilon 0.
+// RULES 12: Phase I, or no room in one of its rounds; and then Phase II.
 fn phases(states: &mut [u8], area: &mut [u16], weights: &[u16], held: Held) -> Ended
     requires { ⌜ Safe (now weights) (now states) (now area) held ⌝ }
     ensures { λ r. ⌜ PhasesOver (now (weights .entry)) (now (states .entry)) (now (area .entry)) held (now (states .exit)) (now (area .exit)) r ⌝ }

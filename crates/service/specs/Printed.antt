@@ -10,7 +10,7 @@ use Rattle.fasta.specs.Block.{jobOf}
 use Rattle.text.specs.Printed.{refusalOf}
 use Rattle.service.specs.Served.{Shown}
 
--- `refused`, number and place for a text that is refused; else what document 01 prints for the job made of it, answered with the least
+-- `refused`, number and place for a text that is refused; else what the rules print for the job made of it, answered with the least
 -- memory that may be lent. The job has memory enough, so 20 is never given.
 unfoldable pub fastaPrinted : ℕ → Bytes → Bytes
 fastaPrinted epsilon text =

@@ -1,4 +1,4 @@
--- A job is answered, and its answer printed: what the call promises, and the text that document 01 prints.
+-- A job is answered, and its answer printed: what the call promises, and the text of RULES 15.
 use mathlib.Core.Path.{_≡_}
 use mathlib.Core.Bool.{cond}
 use mathlib.Core.List.{[]}

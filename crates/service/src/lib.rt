@@ -37,7 +37,7 @@ pub fn call_with(
     Owned { answer, table }
 }
 
-// The call over work memory of this function's own, of the least lengths that document 01 asks for. The call clears it, whatever it holds:
+// The call over work memory of this function's own, of the least lengths that RULES 3.1 asks for. The call clears it, whatever it holds:
 // so it holds numbers whose two bytes differ, which a compiler fills in by wide steps and not byte by byte.
 pub fn answer_job(job: &[u8], result: &mut [u8]) -> Answer
     ensures { λ r. ⌜ AnsweredJob (now (job .entry)) (now (result .entry)) r (now (result .exit)) ⌝ }

@@ -19,7 +19,7 @@ use Rattle.triplets.specs.Mismatches.{Narrow, Cached}
 use Rattle.medians.specs.Swept.{Gives}
 use Rattle.medians.specs.declared.search.Search.{Search}
 
--- A triplet: three different types of n, ascending, of which at least two pairs are linked.
+-- RULES 9.1: a triplet of the n types; its numbers ascend.
 pub record IsTriplet (area : List ℕ) (n : ℕ) (t : Triplet) : Type 0 where
   pub rising : (t .u < t .v) × (t .v < t .w)
   pub current : t .w < n

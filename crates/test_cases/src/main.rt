@@ -1,4 +1,4 @@
-// The cases of document 01 that are run: R1 to R4, rows 256 and 257, widths 64 and 65, document 000's first example, and an area that is
+// The cases of RULES 16.2 to 16.4: R1 to R4, rows 256 and 257, widths 64 and 65, the first example of the paper; and an area that is
 // too short. Each job is built in memory and answered twice over the same memory, which is filled with other leftovers in between. All areas
 // but the link table are longer than they need to be, save in the last case.
 mod build;
@@ -155,7 +155,7 @@ fn area_short(job: &[u8]) {
     );
 }
 
-// Document 000's first example: A, B, C, D, with its weights, at epsilon 0.
+// The first example of the paper, which is document 000 in what is printed: A, B, C, D, with its weights, at epsilon 0.
 fn first_example() {
     io::write_all(libc::STDOUT_FILENO, b"example 1 of document 000\n");
     let job =

@@ -28,8 +28,7 @@ pub fn put_network_line(block: &[u8], out: &mut [u8], at: usize) -> usize
     put(out, at, b"\n")
 }
 
-// The line of a type: number, S with row count or I with round, states. Job and block have one lifetime here and below, since the states
-// are a part of either.
+// RULES 15.2: the line of a type. Job and block have one lifetime here and below, since the states are a part of either.
 fn put_type_line<'a>(job: &'a [u8], block: &'a [u8], k: usize, out: &mut [u8], at: usize) -> usize
     requires { ⌜ Legible (now job) (now block) × (k < typesIn (now block)) × (at + length (typeLineOf (now job) (now block) k) ≤ length (now out)) ⌝ }
     ensures { λ r. ⌜ Follows (now (out .entry)) at (typeLineOf (now (job .entry)) (now (block .entry)) k) (now (out .exit)) r ⌝ }

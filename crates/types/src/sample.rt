@@ -52,7 +52,7 @@ fn one_more(kind: Kind) -> Kind
     }
 }
 
-// Equal rows become one sampled type, with the count of its rows; types are numbered by first row.
+// RULES 5.1, 5.2: rows become sampled types, each at its first row.
 pub fn collapse(job: &[u8], states: &mut [u8], n: usize, m: usize) -> Sample
     requires { ⌜ (number (checked (now job)) ≡ 0) × (n ≡ rows (now job)) × (m ≡ width (now job)) × (stateArea ≤ length (now states)) ⌝ }
     ensures { λ r. ⌜ Collapsed (now (job .entry)) (now (states .entry)) (now (states .exit)) r ⌝ }

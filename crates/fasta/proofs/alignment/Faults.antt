@@ -135,7 +135,7 @@ few-states text (suc i) k clear = rw length-append (go (inSequence text k i) ref
         omega (arith, rw last at (ltb-false 64 (suc (held text i)) (second-false (inSome text i) _ (f .not-wide) s)))
     go false t h = omega arith
 
--- and each state is one of document 01's.
+-- and each state is one of RULES 1.4.
 pub states-within : (text : Bytes) (i k x : ℕ) → Clear text i → In x (joined text i k) → Within 33 126 x
 unfolding joined
 states-within text i k x clear h =
