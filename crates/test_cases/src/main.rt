@@ -155,9 +155,9 @@ fn area_short(job: &[u8]) {
     );
 }
 
-// The first example of the paper, which is document 000 in what is printed: A, B, C, D, with its weights, at epsilon 0.
+// The first example of the paper: A, B, C, D, with its weights, at epsilon 0.
 fn first_example() {
-    io::write_all(libc::STDOUT_FILENO, b"example 1 of document 000\n");
+    io::write_all(libc::STDOUT_FILENO, b"example 1 of the paper\n");
     let job =
         b"\x04\0\x05\0\0\0\x0c\0\x16\0\x2a\0\x01\0\x03\0\x02\0\x01\0\x02\000000110001011001101";
     answer_twice(job, 137);
