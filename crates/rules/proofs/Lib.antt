@@ -15,3 +15,4 @@ pub mod Block
 pub mod Lookup
 pub mod Decimals
 pub mod Table
+pub mod Sizes
