@@ -1,4 +1,4 @@
--- Laws of Marks.antt: what marks are made of, in which order they are written, and that two who find the links leave the same.
+-- Laws of Marks.antt: what marks tell, and that two who find the links leave the same.
 use mathlib.Core.Path.{_≡_, refl, sym, _∙_}
 use mathlib.Core.Logic.{_↔_, _≢_, Iff·trans, Dec·and}
 use mathlib.Core.Bool.{Bool, true, false, cond, false≢true}
@@ -7,40 +7,17 @@ use Prim.Native.Nat.{ℕ, _+_, _*_, _≤_, _<_, min, max}
 use native.Mathlib.Omega.{arith}
 use native.Mathlib.Decide.{ℕ-discrete, decLt}
 use lib.Dec.{eqb}
-use lib.ListN.{length, getD, set}
+use lib.ListN.{getD}
 use borrow.Author.Tests.{eq-eqb, ne-eqb}
 use Rattle.graph.specs.Spans.{spans, feasible}
 use Rattle.graph.proofs.Below.{sum-more}
 use Rattle.graph.proofs.Feasibility.{feasible-back}
 use Rattle.graph.proofs.Spans.{feasible-is}
-use Rattle.distances.specs.Area.{cellAt, CellsWritten, Line}
-use Rattle.distances.proofs.Area.{Asked, Narrow, cell-kept, line-more, written-as, written-both, written-more, written-once}
+use Rattle.distances.specs.Area.{cellAt, CellsWritten}
+use Rattle.distances.proofs.Area.{written-once}
 use Rattle.spans.specs.Tree.{between, mirrored, Mirror, opposite, Spanned}
-use Rattle.spans.proofs.Turns.{mirror-more}
 use Rattle.spans.proofs.Growing.{between-sym}
 use Rattle.links.specs.Marks.{markCount, mark, LinksFound}
-
--- It is the mark it was while the cell was not written.
-mark-kept : {asked : Asked} {f : ℕ → ℕ → ℕ} {before after : List ℕ} → CellsWritten asked f before after → Narrow asked → (e : ℕ)
-    (spans : List ℕ) (i j : ℕ) → j < 128 → ¬ asked i j → mark e spans after i j ≡ mark e spans before i j
-mark-kept w narrow e spans i j h n = rw (cell-kept w narrow i j h n)
-
--- One cell more of a line.
-pub cell-marked : (e i j v : ℕ) (spans before : List ℕ) {area : List ℕ} → i < j → j < 128 → 16384 ≤ length before →
-    CellsWritten (Line j i) (mark e spans before) before area → v ≡ mark e spans area j i →
-    CellsWritten (Line j (i + 1)) (mark e spans before) before (set area (128 * j + i) v)
-cell-marked e i j v spans before h l room w m =
-    let kept = mark-kept w (λ a b t. omega arith) e spans j i (omega arith) (λ t. omega arith) in
-    written-more w (λ a b t. omega arith) j i v (line-more j i) (omega arith) (m ∙ kept)
-
--- One line more.
-pub line-marked : (e j : ℕ) (spans before : List ℕ) {mid after : List ℕ} → j < 128 →
-    CellsWritten (Mirror j) (mark e spans before) before mid → CellsWritten (Line j j) (mark e spans mid) mid after →
-    CellsWritten (Mirror (j + 1)) (mark e spans before) before after
-line-marked e j spans before h w x =
-    let narrow : Narrow (Mirror j) = λ a b t. omega arith in
-    let line = written-as x (λ a b. (λ t. t, λ t. t)) (λ a b t. mark-kept w narrow e spans a b (omega arith) (λ u. omega arith)) in
-    written-as (written-both w line narrow (λ a b t. omega arith) (λ a b t. no (λ u. omega arith))) (mirror-more j) (λ a b t. refl)
 
 -- A mark tells a test: it is 1 exactly where the test passes, and never more.
 tells : (t : Bool) {v : ℕ} → v ≡ cond t 1 0 → ((v ≡ 1) ↔ (t ≡ true)) × (v ≤ 1)
