@@ -14,22 +14,16 @@ use Rattle.distances.proofs.Area.{Asked, Passed, byColumn, Turn, cell-kept, par
 use Rattle.spans.specs.Tree.{opposite}
 use Rattle.spans.specs.Growth.{Filled, Least, OutsideAt, NearestFound}
 
--- No number is written, and one more.
-module _ {f : ℕ → ℕ} {before : List ℕ} where
-  pub filled-none : Filled 0 f before before
-  filled-none = record { size = refl; holds = λ u h. absurd (not-suc-le-zero h); kept = λ u h. refl }
-
-  pub filled-more : {k v : ℕ} {after : List ℕ} → Filled k f before after → k < length before → v ≡ f k →
-      Filled (k + 1) f before (set after k v)
-  filled-more {k} {v} {after} w h e =
-      let l : k < length after = omega (arith, w .size) in
-      record {
-        size = length-set after k v ∙ w .size;
-        holds = below-more _ k
-            (λ u b. getD-set-other after k u v 0 (omega arith) ∙ w .holds u b)
-            (getD-set-same after k v 0 l ∙ e);
-        kept = λ u b. getD-set-other after k u v 0 (omega arith) ∙ w .kept u (omega arith);
-      }
+-- One number more is written.
+pub filled-more : {f : ℕ → ℕ} {before after : List ℕ} {k v : ℕ} → Filled k f before after → k < length before → v ≡ f k →
+    Filled (k + 1) f before (set after k v)
+filled-more {after = after} {k} {v} w h e = record {
+  size = length-set after k v ∙ w .size;
+  holds = below-more _ k
+      (λ u b. getD-set-other after k u v 0 (omega arith) ∙ w .holds u b)
+      (getD-set-same after k v 0 (omega (arith, w .size)) ∙ e);
+  kept = λ u b. getD-set-other after k u v 0 (omega arith) ∙ w .kept u (omega arith);
+}
 
 -- The least of no numbers, and of one more.
 module _ {f : ℕ → ℕ} where
@@ -45,23 +39,19 @@ module _ {f : ℕ → ℕ} where
     ];
   }
 
--- No type is found among none, and the last one that fits among one more.
-module _ {near inside : List ℕ} {x : ℕ} where
-  pub found-none : NearestFound 0 near inside x 0
-  found-none = record { to = omega arith; fits = λ u h. absurd (not-suc-le-zero h) }
-
-  pub found-more : {k r p : ℕ} → NearestFound k near inside x r → OutsideAt (getD near k 0) (getD inside k 0) x k p →
-      NearestFound (k + 1) near inside x (max p r)
-  found-more {k} {r} {p} f =
-      let to = f .to in
-      ⊎-elim
-      (λ (t, e). let m : max p r ≡ k = omega arith in
-      rw m (record { to = omega arith; fits = λ u h g. (omega arith, t) }))
-      (λ (other, e). let m : max p r ≡ r = omega arith in
-      rw m (record {
-        to = omega arith;
-        fits = below-more _ k (λ u h g. let (l, t) = f .fits u h g in (omega arith, t)) (λ g. absurd (other g));
-      }))
+-- Of one type more the last one that fits is found.
+pub found-more : {near inside : List ℕ} {x k r p : ℕ} → NearestFound k near inside x r → OutsideAt (getD near k 0) (getD inside k 0) x k p →
+    NearestFound (k + 1) near inside x (max p r)
+found-more {k = k} {r} {p} f =
+    let to = f .to in
+    ⊎-elim
+    (λ (t, e). let m : max p r ≡ k = omega arith in
+    rw m (record { to = omega arith; fits = λ u h g. (omega arith, t) }))
+    (λ (other, e). let m : max p r ≡ r = omega arith in
+    rw m (record {
+      to = omega arith;
+      fits = below-more _ k (λ u h g. let (l, t) = f .fits u h g in (omega arith, t)) (λ g. absurd (other g));
+    }))
 
 -- A part of the mirror cells more: what stands opposite to it has not changed, since that is no mirror cell.
 pub mirror-passed : {by : ℕ → ℕ → ℕ} {asked part : Asked} {k m : ℕ} {before mid after : List ℕ} →

@@ -1,5 +1,5 @@
 -- `distances::distance` meets its contract: after c characters the sum is that of the first c.
-use Prim.Native.Nat.{_-_, _<_}
+use Prim.Native.Nat.{_-_}
 use native.Mathlib.Omega.{arith}
 use Rattle.distances.proofs.Summed.{Summed, none-summed, all-summed, counts-little, one-more}
 use Rattle.distances.proofs.distance.Statement.{statement}

@@ -1,5 +1,4 @@
 -- `distances::measure_one` meets its contract: the cells of type j are passed line by line.
-use mathlib.Core.Path.{_≡_}
 use Prim.Native.Nat.{_+_, _-_}
 use native.Mathlib.Omega.{arith}
 use Rattle.distances.specs.Area.{CellsWritten, New, storedApart}

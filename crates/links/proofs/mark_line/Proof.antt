@@ -1,5 +1,4 @@
 -- `links::mark_line` meets its contract: the cells of the line are passed column by column. Each is read before it is written.
-use mathlib.Core.Path.{_≡_}
 use Prim.Native.Nat.{_-_}
 use native.Mathlib.Omega.{arith}
 use Rattle.distances.specs.Area.{CellsWritten, Line}

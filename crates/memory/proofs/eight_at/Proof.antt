@@ -17,12 +17,6 @@ abbrev μ-loop : tie.MeasureT-loop
 loop-holds : tie.Need-loop-holds Inv-loop μ-loop
 loop-holds c = (none-spelt _ _ _, λ h. absurd (omega arith))
 
-add-byte : tie.Need-add-byte Inv-loop μ-loop
-add-byte c = omega (arith, c .before .loop .inv .0 .passed)
-
-shared-slice-read-byte : tie.Need-shared-slice-read-byte Inv-loop μ-loop
-shared-slice-read-byte c = omega (arith, c .before .before .loop .inv .0 .passed)
-
 cast-byte : tie.Need-cast-byte Inv-loop μ-loop
 cast-byte c = fits-8-64 (c .shared-slice-known .given _)
 
@@ -54,8 +48,8 @@ eight-at-spec =
     μ-loop
     loop-holds
     (λ c. omega arith)
-    add-byte
-    shared-slice-read-byte
+    (λ c. omega arith)
+    (λ c. omega arith)
     cast-byte
     mul-word
     add-word

@@ -1,5 +1,4 @@
 -- `spans::mirror_part` meets its contract: the cells are passed column by column. What stands opposite is in no line of theirs.
-use mathlib.Core.Path.{_≡_}
 use Prim.Native.Nat.{_-_, _≤_}
 use native.Mathlib.Omega.{arith}
 use Rattle.distances.specs.Area.{CellsWritten}

@@ -33,14 +33,8 @@ read c =
     let stays = ltb-true b (s .args .count) (c .if2 .taken) in
     record { stays = stays; line = s .pre .0 .within (s .args .a) (omega arith); column = s .pre .0 .within b stays }
 
-shared-slice-read-area : tie.Need-shared-slice-read-area Inv-loop μ-loop
-shared-slice-read-area c = let r = read (c .before) in omega arith
-
 mul-area-2 : tie.Need-mul-area-2 Inv-loop μ-loop
 mul-area-2 c = let r = read (c .before) in omega arith
-
-shared-slice-read-area-2 : tie.Need-shared-slice-read-area-2 Inv-loop μ-loop
-shared-slice-read-area-2 c = let r = read (c .before .before) in omega arith
 
 add-area : tie.Need-add-area Inv-loop μ-loop
 add-area c = let r = read (c .before .before) in omega arith
@@ -74,10 +68,10 @@ line-left-spec =
     μ-loop
     (λ c. omega arith)
     (λ c. omega arith)
-    shared-slice-read-area
+    (λ c. omega arith)
     mul-area-2
     (λ c. omega arith)
-    shared-slice-read-area-2
+    (λ c. omega arith)
     add-area
     mul-area-4
     slice-read-area
