@@ -20,17 +20,14 @@ loop-holds c = (none-spelt _ _ _, λ h. absurd (omega arith))
 cast-byte : tie.Need-cast-byte Inv-loop μ-loop
 cast-byte c = fits-8-64 (c .shared-slice-known .given _)
 
-mul-word : tie.Need-mul-word Inv-loop μ-loop
-mul-word c =
-    let l = c .before .before in
-    let i = l .before .args .i in
-    omega (arith, one-fits _ _ _ _ _ _ (omega arith) (l .loop .inv .0) refl (λ x. omega (arith, c .shared-slice-known .given (i + x))))
-
 add-word : tie.Need-add-word Inv-loop μ-loop
 add-word c =
     let l = c .before .before in
     let i = l .before .args .i in
     omega (arith, one-fits _ _ _ _ _ _ (omega arith) (l .loop .inv .0) refl (λ x. omega (arith, c .shared-slice-known .given (i + x))))
+
+mul-word : tie.Need-mul-word Inv-loop μ-loop
+mul-word c = omega (arith, add-word c)
 
 loop-again : tie.Need-loop-again Inv-loop μ-loop
 loop-again c = (one-spelt _ _ _ _ _ _ (omega arith) (c .before .before .loop .inv .0) refl, λ h p. omega (arith, c .shared-slice-known .given p))
