@@ -55,11 +55,11 @@ found-more {k = k} {r} {p} f =
 
 -- A part of the mirror cells more: what stands opposite to it has not changed, since that is no mirror cell.
 pub mirror-passed : {by : ℕ → ℕ → ℕ} {asked part : Asked} {k m : ℕ} {before mid after : List ℕ} →
-    CellsWritten (Passed by asked k) (opposite before) before mid → Turn by asked part k m → ((i j : ℕ) → part i j → i < 128) →
-    ((i j : ℕ) → part i j → ¬ Passed by asked k j i) → CellsWritten part (opposite mid) mid after →
+    CellsWritten (Passed by asked k) (opposite before) before mid → Turn by asked part k m →
+    ((i j : ℕ) → part i j → (i < 128) × ¬ Passed by asked k j i) → CellsWritten part (opposite mid) mid after →
     CellsWritten (Passed by asked m) (opposite before) before after
-mirror-passed w turn low other x =
-    part-passed w turn x (λ i j t. cell-kept w (λ a b u. turn .narrow a b (u .is)) j i (low i j t) (other i j t))
+mirror-passed w turn free x =
+    part-passed w turn x (λ i j t. cell-kept w (λ a b u. turn .narrow a b (u .is)) j i (free i j t .0) (free i j t .1))
 
 -- A type joins, and a step is settled: `reach` is as long as the step at least, and the line is written by it. Only what is stored
 -- differs: it is made of the span that stood there and the new reach.

@@ -17,7 +17,7 @@ abbrev μ-loop : tie.MeasureT-loop
 loop-again : tie.Need-loop-again Inv-loop μ-loop
 loop-again c =
     let m = c .before .before in
-    mirror-passed (m .before .before .before .loop .inv) (omega arith) (omega arith) (omega arith) (m .mirror-line .ensures)
+    mirror-passed (m .before .before .before .loop .inv) (omega arith) (omega arith) (m .mirror-line .ensures)
 
 returns : tie.Need-returns Inv-loop μ-loop
 returns c = all-passed (c .before .loop .inv) (omega arith)

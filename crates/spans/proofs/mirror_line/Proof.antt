@@ -17,13 +17,13 @@ abbrev μ-loop : tie.MeasureT-loop
 loop-again : tie.Need-loop-again Inv-loop μ-loop
 loop-again c =
     let p = c .before .before in
-    (omega arith, mirror-passed (p .before .before .before .loop .inv .1) (omega arith) (omega arith) (omega arith) (p .mirror-part .ensures))
+    (omega arith, mirror-passed (p .before .before .before .loop .inv .1) (omega arith) (omega arith) (p .mirror-part .ensures))
 
 returns : tie.Need-returns Inv-loop μ-loop
 returns c =
     let p = c .before .before in
     let j = p .before .before .before .before .before .args .j in
-    all-passed (mirror-passed {m = j} (p .before .before .before .loop .inv .1) (omega arith) (omega arith) (omega arith) (p .mirror-part2 .ensures)) (omega arith)
+    all-passed (mirror-passed {m = j} (p .before .before .before .loop .inv .1) (omega arith) (omega arith) (p .mirror-part2 .ensures)) (omega arith)
 
 pub mirror-line-spec : {M : Type 1} → statement M
 mirror-line-spec =
