@@ -1,15 +1,15 @@
--- Laws of Area.antt: what is written by no store, by one and by one after another, and that two who write the same leave the same.
+-- Laws of Area.antt: what is written by one store and by a loop of them, and that two who write the same leave the same.
 -- Every cell asked for is narrow: it lies in one of its line's 128 columns, so that a place has one line and one column.
 use mathlib.Core.Path.{_≡_, refl, sym, _∙_}
-use mathlib.Core.Logic.{_↔_, _≢_, _⊎_, inl, inr, ⊎-elim, Dec·and}
+use mathlib.Core.Logic.{_↔_, _≢_, _⊎_, inl, inr, Dec·and}
 use mathlib.Core.List.{List}
-use Prim.Native.Nat.{ℕ, _+_, _*_, _/_, _%_, _≤_, _<_, max}
+use Prim.Native.Nat.{ℕ, _+_, _*_, _/_, _%_, _≤_, _<_}
 use native.Mathlib.Nat.{mod-lt, div-add-mod}
-use native.Mathlib.Decide.{map-dec, ℕ-discrete, decLe, decLt}
+use native.Mathlib.Decide.{map-dec, decLe, decLt}
 use native.Mathlib.Omega.{arith}
 use lib.ListN.{length, set, length-set}
 use lib.Seq.{getD-set-same, getD-set-other, ext-getD}
-use Rattle.distances.specs.Area.{cellAt, CellsWritten, Line, New}
+use Rattle.distances.specs.Area.{cellAt, CellsWritten, New}
 
 abbrev pub Asked : Type 1
 Asked = ℕ → ℕ → Type 0
@@ -41,19 +41,6 @@ cell-kept {asked} w narrow i j h other = w .kept (128 * i + j) (λ a b t e.
     let same : b ≡ j = omega arith in
     other (rw (line, same) at t))
 
--- Nothing was asked for, and nothing changed.
-pub none-written : {asked : Asked} {f : ℕ → ℕ → ℕ} {area : List ℕ} → ((i j : ℕ) → ¬ asked i j) → CellsWritten asked f area area
-none-written none = record { size = refl; holds = λ i j t. absurd (none i j t); kept = λ p other. refl }
-
--- The same, by other words for the same cells, and other numbers that are equal there.
-pub written-as : {asked asked′ : Asked} {f f′ : ℕ → ℕ → ℕ} {before after : List ℕ} → CellsWritten asked f before after →
-    ((i j : ℕ) → asked i j ↔ asked′ i j) → ((i j : ℕ) → asked′ i j → f i j ≡ f′ i j) → CellsWritten asked′ f′ before after
-written-as w same equal = record {
-  size = w .size;
-  holds = λ i j t. w .holds i j (same i j .1 t) ∙ equal i j t;
-  kept = λ p other. w .kept p (λ i j t. other i j (same i j .0 t));
-}
-
 -- One store.
 pub written-one : {f : ℕ → ℕ → ℕ} (area : List ℕ) (i j v : ℕ) → 128 * i + j < length area → v ≡ f i j →
     CellsWritten (Cell i j) f area (set area (128 * i + j) v)
@@ -63,27 +50,49 @@ written-one area i j v h e = record {
   kept = λ p other. getD-set-other area (128 * i + j) p v 0 (other i j (refl, refl));
 }
 
--- First some, and then others or the same again.
-pub written-both : {first then : Asked} {f : ℕ → ℕ → ℕ} {before mid after : List ℕ} → CellsWritten first f before mid → CellsWritten then f mid after →
-    Narrow first → Narrow then → ((i j : ℕ) → first i j → Dec (then i j)) → CellsWritten (λ i j. first i j ⊎ then i j) f before after
-written-both {first} w x nf nt again = record {
-  size = x .size ∙ w .size;
-  holds = λ i j. ⊎-elim (λ t. elim (again i j t) [
-    | yes u ↦ x .holds i j u
-    | no other ↦ cell-kept x nt i j (nf i j t) other ∙ w .holds i j t
-  ]) (x .holds i j);
-  kept = λ p other. x .kept p (λ i j t. other i j (inr t)) ∙ w .kept p (λ i j t. other i j (inl t));
-}
+-- A loop passes the cells asked for by a number of theirs, such as the line or the column. Those passed at k.
+pub record Passed (by : ℕ → ℕ → ℕ) (asked : Asked) (k i j : ℕ) : Type 0 where
+  pub is : asked i j
+  pub below : by i j < k
 
--- One store more, in a new cell or in one asked for before.
-pub written-more : {asked more : Asked} {f : ℕ → ℕ → ℕ} {before after : List ℕ} → CellsWritten asked f before after → Narrow more →
-    (i j v : ℕ) → ((a b : ℕ) → (asked a b ⊎ Cell i j a b) ↔ more a b) → 128 * i + j < length before → v ≡ f i j →
-    CellsWritten more f before (set after (128 * i + j) v)
-written-more {asked} {more} {f} {before} {after} w narrow i j v same h e =
-    let size = w .size in
-    let both = written-both w (written-one {f = f} after i j v (omega arith) e) (λ a b t. narrow a b (same a b .0 (inl t)))
-    (λ a b t. narrow a b (same a b .0 (inr t))) (λ a b t. Dec·and (ℕ-discrete a i) (ℕ-discrete b j)) in
-    written-as both same (λ a b t. refl)
+abbrev pub byLine : ℕ → ℕ → ℕ
+byLine i j = i
+
+abbrev pub byColumn : ℕ → ℕ → ℕ
+byColumn i j = j
+
+-- A turn from k to m writes the part that is passed between them.
+pub record Turn (by : ℕ → ℕ → ℕ) (asked part : Asked) (k m : ℕ) : Type 0 where
+  pub narrow : Narrow asked
+  pub on : k ≤ m
+  pub part-is : (i j : ℕ) → part i j ↔ (asked i j × (k ≤ by i j) × (by i j < m))
+
+-- What is written at the next turn, and once all are passed. None are passed at first, which is plain arithmetic.
+module _ {by : ℕ → ℕ → ℕ} {asked : Asked} {f : ℕ → ℕ → ℕ} {before area : List ℕ} {k : ℕ} (w : CellsWritten (Passed by asked k) f before area) where
+  pub part-passed : {part : Asked} {g : ℕ → ℕ → ℕ} {after : List ℕ} {m : ℕ} → Turn by asked part k m → CellsWritten part g area after →
+      ((i j : ℕ) → part i j → g i j ≡ f i j) → CellsWritten (Passed by asked m) f before after
+  part-passed turn x same = record {
+    size = x .size ∙ w .size;
+    holds = λ i j t. elim (decLt (by i j) k) [
+      | yes l ↦ cell-kept x (λ a b u. turn .narrow a b (turn .part-is a b .0 u .0)) i j (turn .narrow i j (t .is))
+          (λ u. omega (arith, turn .part-is i j .0 u .1)) ∙ w .holds i j (record { is = t .is; below = l })
+      | no g ↦ let u = turn .part-is i j .1 (t .is, omega arith, t .below) in x .holds i j u ∙ same i j u
+    ];
+    kept = λ p other. x .kept p (λ i j u. let t = turn .part-is i j .0 u in other i j (record { is = t .0; below = t .2 }))
+        ∙ w .kept p (λ i j t. other i j (record { is = t .is; below = omega (arith, t .below, turn .on) }));
+  }
+
+  pub cell-passed : {i j v : ℕ} → Turn by asked (Cell i j) k (k + 1) → 128 * i + j < length before → v ≡ f i j →
+      CellsWritten (Passed by asked (k + 1)) f before (set area (128 * i + j) v)
+  cell-passed {i} {j} {v} turn h e =
+      part-passed turn (written-one {f = f} area i j v (omega (arith, w .size)) e) (λ a b t. refl)
+
+  pub all-passed : ((i j : ℕ) → asked i j → by i j < k) → CellsWritten asked f before area
+  all-passed all = record {
+    size = w .size;
+    holds = λ i j t. w .holds i j (record { is = t; below = all i j t });
+    kept = λ p other. w .kept p (λ i j t. other i j (t .is));
+  }
 
 -- Two who write the same numbers to the same cells leave the same.
 pub written-once : {asked : Asked} {f : ℕ → ℕ → ℕ} {before a b : List ℕ} → Narrow asked → ((i j : ℕ) → Dec (asked i j)) →
@@ -97,30 +106,7 @@ written-once {asked} {f} {before} {a} {b} narrow dec w x = ext-getD 0 a b (w .si
       | no other ↦ cell-kept w narrow i j h other ∙ sym (cell-kept x narrow i j h other)
     ]
 
--- One cell more of a line.
-pub line-more : (a n i j : ℕ) → (Line a n i j ⊎ Cell a n i j) ↔ Line a (n + 1) i j
-line-more a n i j = (
-  ⊎-elim (λ t. (t .0, omega arith)) (λ t. (t .0, omega arith)),
-  λ t. elim (decLt j n) [ yes l ↦ inl (t .0, l) | no other ↦ inr (t .0, omega arith) ],
-)
-
--- The cells of column j in the first n lines, and those of one line more. Up to line j they are the new pairs of type j alone.
-abbrev pub Column : ℕ → ℕ → Asked
-Column n j a b = (a < n) × (b ≡ j)
-
-pub column-more : (n j a b : ℕ) → (Column n j a b ⊎ Cell n j a b) ↔ Column (n + 1) j a b
-column-more n j a b = (
-  ⊎-elim (λ t. (omega arith, t .1)) (λ t. (omega arith, t .1)),
-  λ t. elim (decLt a n) [ yes l ↦ inl (l, t .1) | no other ↦ inr (omega arith, t .1) ],
-)
-
-pub column-new : (j a b : ℕ) → Column j j a b ↔ New j (j + 1) a b
-column-new j a b = (
-  λ t. record { rising = omega arith; first = omega arith; last = omega arith },
-  λ t. (omega (arith, t .rising, t .first, t .last), omega (arith, t .first, t .last)),
-)
-
--- New pairs: they are narrow, it can be told which they are, and those of one type more.
+-- New pairs: they are narrow, and it can be told which they are.
 pub new-narrow : (from to : ℕ) → to ≤ 128 → Narrow (New from to)
 new-narrow from to h i j t = omega (arith, t .last)
 
@@ -128,20 +114,3 @@ pub new-dec : (from to i j : ℕ) → Dec (New from to i j)
 new-dec from to i j =
     map-dec (λ t. record { rising = t .0; first = t .1 .0; last = t .1 .1 }) (λ t. (t .rising, (t .first, t .last)))
     (Dec·and (decLt i j) (Dec·and (decLe from j) (decLt j to)))
-
-pub new-more : (from j : ℕ) → from ≤ j → (a b : ℕ) → (New from j a b ⊎ New j (j + 1) a b) ↔ New from (j + 1) a b
-new-more from j h a b = (
-  ⊎-elim (λ t. record { rising = t .rising; first = t .first; last = omega (arith, t .last) })
-      (λ t. record { rising = t .rising; first = omega (arith, t .first); last = t .last }),
-  λ t. elim (decLt b j) [
-    | yes l ↦ inl (record { rising = t .rising; first = t .first; last = l })
-    | no n ↦ inr (record { rising = t .rising; first = omega arith; last = t .last })
-  ],
-)
-
--- Where nothing lies between two ends, new pairs up to them are the same.
-pub new-up-to : (from j to : ℕ) → to ≤ j → j ≤ max from to → (a b : ℕ) → New from j a b ↔ New from to a b
-new-up-to from j to h l a b = (
-  λ t. record { rising = t .rising; first = t .first; last = omega (arith, t .first, t .last) },
-  λ t. record { rising = t .rising; first = t .first; last = omega (arith, t .last) },
-)

@@ -3,7 +3,6 @@ use mathlib.Core.Path.{_≡_, refl, ap}
 use mathlib.Core.Bool.{Bool, true, false, cond}
 use mathlib.Core.List.{List}
 use Prim.Native.Nat.{ℕ, _+_, _*_, _≤_, _<_}
-use native.Mathlib.Nat.{le-trans}
 use native.Mathlib.Omega.{arith}
 use lib.Dec.{eqb}
 use lib.ListN.{length, getD}
@@ -32,22 +31,19 @@ module _ (ws : List ℕ) (states : Bytes) (i j : ℕ) where
       rw all at (t .so-far)
 
   -- What character c counts is at most its weight.
-  abbrev pub counts : ℕ → ℕ
+  abbrev counts : ℕ → ℕ
   counts c = cond (eqb (getD states (64 * i + c) 0) (getD states (64 * j + c) 0)) 0 (getD ws c 0)
 
   cond-at-most : (b : Bool) (x : ℕ) → cond b 0 x ≤ x
   cond-at-most true x = omega arith
   cond-at-most false x = omega arith
 
-  module _ {c s : ℕ} (h : c < 64) (t : Summed c s) (w : Weighed ws) where
-    pub counts-little : counts c ≤ 1000
-    counts-little = le-trans (cond-at-most (eqb (getD states (64 * i + c) 0) (getD states (64 * j + c) 0)) (getD ws c 0)) (w .at-most c h)
-
-    -- One character more.
-    pub one-more : Summed (c + 1) (s + counts c)
-    one-more =
-        record {
-          passed = omega arith;
-          so-far = rw (sum-more, storedAt-state states i c h, storedAt-state states j c h) (ap (λ (k : ℕ). k + counts c) (t .so-far));
-          small = omega (arith, t .small, counts-little);
-        }
+  -- One character more.
+  pub one-more : {c s : ℕ} → c < 64 → Summed c s → Weighed ws → Summed (c + 1) (s + counts c)
+  one-more {c} h t w =
+      let few = cond-at-most (eqb (getD states (64 * i + c) 0) (getD states (64 * j + c) 0)) (getD ws c 0) in
+      record {
+        passed = omega arith;
+        so-far = rw (sum-more, storedAt-state states i c h, storedAt-state states j c h) (ap (λ (k : ℕ). k + counts c) (t .so-far));
+        small = omega (arith, t .small, w .at-most c h);
+      }

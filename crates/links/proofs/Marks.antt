@@ -1,46 +1,23 @@
--- Laws of Marks.antt: what marks are made of, in which order they are written, and that two who find the links leave the same.
+-- Laws of Marks.antt: what marks tell, and that two who find the links leave the same.
 use mathlib.Core.Path.{_≡_, refl, sym, _∙_}
 use mathlib.Core.Logic.{_↔_, _≢_, Iff·trans, Dec·and}
 use mathlib.Core.Bool.{Bool, true, false, cond, false≢true}
 use mathlib.Core.List.{List}
-use Prim.Native.Nat.{ℕ, _+_, _*_, _≤_, _<_, min, max}
+use Prim.Native.Nat.{ℕ, _+_, _≤_, _<_, min, max}
 use native.Mathlib.Omega.{arith}
 use native.Mathlib.Decide.{ℕ-discrete, decLt}
 use lib.Dec.{eqb}
-use lib.ListN.{length, getD, set}
+use lib.ListN.{getD}
 use borrow.Author.Tests.{eq-eqb, ne-eqb}
 use Rattle.graph.specs.Spans.{spans, feasible}
-use Rattle.graph.proofs.Below.{sum-more}
+use Rattle.graph.proofs.Below.{sum-more, count-le}
 use Rattle.graph.proofs.Feasibility.{feasible-back}
 use Rattle.graph.proofs.Spans.{feasible-is}
-use Rattle.distances.specs.Area.{cellAt, CellsWritten, Line}
-use Rattle.distances.proofs.Area.{Asked, Narrow, cell-kept, line-more, written-as, written-both, written-more, written-once}
+use Rattle.distances.specs.Area.{cellAt, CellsWritten}
+use Rattle.distances.proofs.Area.{written-once}
 use Rattle.spans.specs.Tree.{between, mirrored, Mirror, opposite, Spanned}
-use Rattle.spans.proofs.Turns.{mirror-more}
 use Rattle.spans.proofs.Growing.{between-sym}
-use Rattle.links.specs.Marks.{markCount, mark, LinksFound}
-
--- It is the mark it was while the cell was not written.
-mark-kept : {asked : Asked} {f : ℕ → ℕ → ℕ} {before after : List ℕ} → CellsWritten asked f before after → Narrow asked → (e : ℕ)
-    (spans : List ℕ) (i j : ℕ) → j < 128 → ¬ asked i j → mark e spans after i j ≡ mark e spans before i j
-mark-kept w narrow e spans i j h n = rw (cell-kept w narrow i j h n)
-
--- One cell more of a line.
-pub cell-marked : (e i j v : ℕ) (spans before : List ℕ) {area : List ℕ} → i < j → j < 128 → 16384 ≤ length before →
-    CellsWritten (Line j i) (mark e spans before) before area → v ≡ mark e spans area j i →
-    CellsWritten (Line j (i + 1)) (mark e spans before) before (set area (128 * j + i) v)
-cell-marked e i j v spans before h l room w m =
-    let kept = mark-kept w (λ a b t. omega arith) e spans j i (omega arith) (λ t. omega arith) in
-    written-more w (λ a b t. omega arith) j i v (line-more j i) (omega arith) (m ∙ kept)
-
--- One line more.
-pub line-marked : (e j : ℕ) (spans before : List ℕ) {mid after : List ℕ} → j < 128 →
-    CellsWritten (Mirror j) (mark e spans before) before mid → CellsWritten (Line j j) (mark e spans mid) mid after →
-    CellsWritten (Mirror (j + 1)) (mark e spans before) before after
-line-marked e j spans before h w x =
-    let narrow : Narrow (Mirror j) = λ a b t. omega arith in
-    let line = written-as x (λ a b. (λ t. t, λ t. t)) (λ a b t. mark-kept w narrow e spans a b (omega arith) (λ u. omega arith)) in
-    written-as (written-both w line narrow (λ a b t. omega arith) (λ a b t. no (λ u. omega arith))) (mirror-more j) (λ a b t. refl)
+use Rattle.links.specs.Marks.{marked, markCount, mark, LinksFound}
 
 -- A mark tells a test: it is 1 exactly where the test passes, and never more.
 tells : (t : Bool) {v : ℕ} → v ≡ cond t 1 0 → ((v ≡ 1) ↔ (t ≡ true)) × (v ≤ 1)
@@ -91,10 +68,33 @@ module _ {n e : ℕ} {before : List ℕ} where
   pub found-once : {a b : List ℕ} → n ≤ 128 → LinksFound n e before a → LinksFound n e before b → a ≡ b
   found-once h p q = written-once (λ i j t. omega arith) (λ i j. Dec·and (decLt j i) (decLt i n)) (found-written p q) (found-written q q)
 
--- The count of links with one type more: it is one more where that is marked, and type i itself is none.
-module _ (area : List ℕ) (i : ℕ) where
-  pub count-more : (j : ℕ) → i ≢ j → markCount area (j + 1) i ≡ markCount area j i + cond (eqb (getD area (mirrored i j) 0) 1) 1 0
-  count-more j ne = sum-more j _ ∙ rw (ne-eqb i j ne)
+-- A loop counts the links of type i with n types. It passed those before j.
+pub record Counted (area : List ℕ) (i n j links : ℕ) : Type 0 where
+  pub is : links ≡ markCount area (min j n) i
+  pub few : links ≤ n
 
-  pub count-self : markCount area (i + 1) i ≡ markCount area i i
-  count-self = sum-more i _ ∙ rw (eq-eqb i i refl) (omega arith)
+module _ {area : List ℕ} {i n : ℕ} where
+  pub counted-at : {j links : ℕ} → links ≡ markCount area (min j n) i → Counted area i n j links
+  counted-at {j} e = record { is = e; few = omega (arith, count-le (min j n) (marked area i)) }
+
+  pub counted-none : Counted area i n 0 0
+  counted-none = counted-at (omega (arith, count-le (min 0 n) (marked area i)))
+
+  -- One type more counts 1 if its mark, read at its place, says linked. Type i itself is not linked.
+  pub counted-more : {j links one : ℕ} (p : ℕ) → Counted area i n j links → (j < n) × (i ≢ j) × (p ≡ mirrored i j) →
+      one ≡ cond (eqb (getD area p 0) 1) 1 0 → Counted area i n (j + 1) (links + one)
+  counted-more {j} {links} {one} p c (h, ne, at) e =
+      let old : min j n ≡ j = omega arith in
+      let new : min (j + 1) n ≡ j + 1 = omega arith in
+      counted-at (rw (new, sum-more j (λ k. cond (marked area i k) 1 0), ne-eqb i j ne, ← at, ← e, c .is, old))
+
+  pub counted-self : {links : ℕ} → Counted area i n i links → Counted area i n (i + 1) links
+  counted-self c = counted-at (c .is ∙ elim (decLt i n) [
+    | yes h ↦ let old : min i n ≡ i = omega arith in
+        let new : min (i + 1) n ≡ i + 1 = omega arith in
+        rw (old, new, sum-more i (λ k. cond (marked area i k) 1 0), eq-eqb i i refl) (omega arith)
+    | no h ↦ let same : min (i + 1) n ≡ min i n = omega arith in rw same
+  ])
+
+  pub counted-all : {j links : ℕ} → n ≤ j → Counted area i n j links → links ≡ markCount area n i
+  counted-all {j} h c = let e : min j n ≡ n = omega arith in rw e at (c .is)

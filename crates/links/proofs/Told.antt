@@ -16,9 +16,21 @@ use Rattle.rules.specs.Distance.{apart}
 use Rattle.rules.specs.Links.{FeasibleLink, linksAt, linked, linkCount}
 use Rattle.rules.proofs.Distance.{apart-sym}
 use Rattle.rules.proofs.Links.{feasible-sym, linked-is, link-count}
-use Rattle.distances.specs.Area.{Measures}
+use Rattle.distances.specs.Area.{cellAt, Measures}
 use Rattle.spans.specs.Tree.{between, mirrored}
 use Rattle.links.specs.Marks.{marked, markCount, LinksFound, TellsLinks}
+
+-- What the lower and the upper of two types say of them, they say whichever is named first.
+either-first : {n : ℕ} (Q : ℕ → ℕ → ℕ → ℕ → Type 0) → ((i j : ℕ) → i < j → j < n → Q i j i j) →
+    ((lo up i j : ℕ) → Q lo up i j → Q lo up j i) → (i j : ℕ) → i < n → j < n → i ≢ j → Q (min i j) (max i j) i j
+either-first Q known back i j hi hj ne = elim (decLt i j) [
+  | yes h ↦ let lo : min i j ≡ i = omega arith in
+      let up : max i j ≡ j = omega arith in
+      rw (lo, up) (known i j h hj)
+  | no f ↦ let lo : min i j ≡ j = omega arith in
+      let up : max i j ≡ i = omega arith in
+      rw (lo, up) (back j i j i (known j i (omega arith) hi))
+]
 
 module _ (ws : List ℕ) (e : ℕ) (rs : List Row) (few : length rs ≤ 128) where
   abbrev n : ℕ
@@ -30,14 +42,7 @@ module _ (ws : List ℕ) (e : ℕ) (rs : List Row) (few : length rs ≤ 128) whe
     measures-still i j h l = found .kept (128 * i + j) (λ a b g m. omega arith) ∙ measures i j h l
 
     between-is : (a b : ℕ) → a < n → b < n → a ≢ b → between before a b ≡ apart ws rs a b
-    between-is a b ha hb ne = elim (decLt a b) [
-      | yes h ↦ let lo : min a b ≡ a = omega arith in
-          let hi : max a b ≡ b = omega arith in
-          rw (lo, hi) (measures a b h hb)
-      | no f ↦ let lo : min a b ≡ b = omega arith in
-          let hi : max a b ≡ a = omega arith in
-          rw (lo, hi) (measures b a (omega arith) ha ∙ apart-sym ws rs b a)
-    ]
+    between-is = either-first (λ lo up a b. cellAt before lo up ≡ apart ws rs a b) measures (λ lo up a b m. m ∙ apart-sym ws rs a b)
 
     pub told : TellsLinks ws e rs after
     told = record {
@@ -53,14 +58,8 @@ module _ (ws : List ℕ) (e : ℕ) (rs : List Row) (few : length rs ≤ 128) whe
 
   module _ {area : List ℕ} (tells : TellsLinks ws e rs area) where
     told-at : (i j : ℕ) → i < n → j < n → i ≢ j → (getD area (mirrored i j) 0 ≡ 1) ↔ FeasibleLink ws e rs i j
-    told-at i j hi hj ne = elim (decLt i j) [
-      | yes h ↦ let lo : min i j ≡ i = omega arith in
-          let up : max i j ≡ j = omega arith in
-          rw (lo, up) (tells .linked i j h hj)
-      | no f ↦ let lo : min i j ≡ j = omega arith in
-          let up : max i j ≡ i = omega arith in
-          rw (lo, up) (Iff·trans (tells .linked j i (omega arith) hi) (feasible-sym ws e rs j i, feasible-sym ws e rs i j))
-    ]
+    told-at = either-first (λ lo up i j. (cellAt area up lo ≡ 1) ↔ FeasibleLink ws e rs i j) (tells .linked)
+        (λ lo up i j t. Iff·trans t (feasible-sym ws e rs i j, feasible-sym ws e rs j i))
 
     -- A pair is marked where it is linked.
     pub marked-is : (i j : ℕ) → i < n → j < n → marked area i j ≡ (not (eqb i j) && linked (linksAt ws e rs) i j)

@@ -5,8 +5,9 @@ use Prim.Native.Nat.{ℕ, zero, suc, _+_, _-_, _≤_, _<_}
 use native.Mathlib.Nat.{add-zero, zero-add, add-assoc, sub-zero, zero-sub, suc-sub-suc}
 use native.Mathlib.Numerals.{add-one}
 use native.Mathlib.Omega.{arith}
-use lib.ListN.{length, take, drop, set, getD, replicate, length-append, length-drop, length-replicate, replicate-append-replicate, take-append-drop, drop-of-length-le}
-use lib.Seq.{length-take-le, take-suc, drop-cons, set-at, append-snoc, take-at, take-append-le, take-take, drop-append-add, drop-drop, getD-take, getD-drop}
+use lib.ListN.{length, take, drop, set, getD, replicate, length-append, length-drop, length-set, length-replicate, getD-replicate, take-append-drop, drop-of-length-le}
+use lib.Seq.{length-take-le, take-suc, drop-cons, set-at, append-snoc, take-at, take-append-le, take-take, drop-append-add, drop-drop, getD-take, getD-drop, getD-set-same, getD-set-other, ext-getD}
+use borrow.Author.Count.{below-more}
 use Rattle.graph.specs.Below.{table}
 use Rattle.graph.proofs.Below.{length-table, table-more}
 use Rattle.rules.specs.Call.{padded}
@@ -86,25 +87,28 @@ module _ {A : Type 0} where
   unfolding placed
   placed-whole b xs e = rw (drop-of-length-le b {i = 0 + length xs} (omega arith)) (append-nil xs)
 
--- One store more behind what stands at the front.
-front-more : (b now xs : List ℕ) (i v : ℕ) → length xs ≡ i → i < length b → now ≡ placed b 0 xs → set now i v ≡ placed b 0 (xs ++ (v ∷ []))
-front-more b now xs i v l h e =
-    ap₂ (λ (n : List ℕ) (k : ℕ). set n k v) e (sym (zero-add i)) ∙ placed-more b xs 0 i v l (omega arith)
-
--- Zeros at the front: one more, and all.
-module _ (b now : List ℕ) (i : ℕ) where
-  pub zeros-more : i < length b → now ≡ placed b 0 (replicate i 0) → set now i 0 ≡ placed b 0 (replicate (i + 1) 0)
-  zeros-more h e =
-      front-more b now (replicate i 0) i 0 (length-replicate i 0) h e ∙ ap (placed b 0) (replicate-append-replicate {A = ℕ} i 1 0)
-
-  pub zeros-all : i ≡ length b → now ≡ placed b 0 (replicate i 0) → now ≡ replicate (length b) 0
-  zeros-all h e = e ∙ rw h (placed-whole b (replicate (length b) 0) (length-replicate (length b) 0))
-
 -- A table at the front: one element more.
 pub table-front : (b now : List ℕ) (i v : ℕ) (f : ℕ → ℕ) → i < length b → now ≡ placed b 0 (table i f) → v ≡ f i →
     set now i v ≡ placed b 0 (table (i + 1) f)
 table-front b now i v f h e g =
-    front-more b now (table i f) i v (length-table i f) h e ∙ ap (placed b 0) (rw (g, table-more))
+    ap₂ (λ (n : List ℕ) (k : ℕ). set n k v) e (sym (zero-add i)) ∙ placed-more b (table i f) 0 i v (length-table i f) (omega arith)
+    ∙ ap (placed b 0) (rw (g, table-more))
+
+-- Zeros are written from the front, whatever the width of a number: so many, one more, and all.
+pub record Cleared (n i : ℕ) (now : List ℕ) : Type 0 where
+  pub size : length now ≡ n
+  pub zeros : (k : ℕ) → k < i → getD now k 0 ≡ 0
+
+module _ {n i : ℕ} {now : List ℕ} (c : Cleared n i now) where
+  pub cleared-more : i < n → Cleared n (i + 1) (set now i 0)
+  cleared-more h = record {
+    size = length-set now i 0 ∙ c .size;
+    zeros = below-more _ i (λ k l. getD-set-other now i k 0 0 (omega arith) ∙ c .zeros k l) (getD-set-same now i 0 0 (omega (arith, c .size)));
+  }
+
+  pub cleared-all : n ≤ i → now ≡ replicate n 0
+  cleared-all h = ext-getD 0 now (replicate n 0) (c .size ∙ sym (length-replicate n 0))
+      (λ k l. c .zeros k (omega (arith, c .size)) ∙ sym (getD-replicate n k 0 0 (omega (arith, c .size))))
 
 -- A copy from the front of s: one element more.
 pub taken-more : (b s now : List ℕ) (at i : ℕ) → i < length s → at + i < length b → now ≡ placed b at (take i s) →

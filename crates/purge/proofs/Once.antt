@@ -1,17 +1,15 @@
 -- One purge: memory that holds a run and tells its links holds the run after all obsolete types went together.
 use mathlib.Core.Path.{_≡_, sym, ap, ap₂, _∙_}
 use mathlib.Core.Logic.{_≢_, ⊎-elim}
-use mathlib.Core.Bool.{Bool, false, not, _&&_, and-eq-true-iff, Bool·not-not}
+use mathlib.Core.Bool.{Bool, not, Bool·not-not}
 use mathlib.Core.List.{List, [], _++_}
 use Prim.Native.Nat.{ℕ, _+_, _*_, _≤_, _<_}
 use native.Mathlib.Omega.{arith}
 use native.Mathlib.Decide.{decLt}
-use lib.Dec.{ltb}
 use lib.ListN.{length, getD, drop, length-append, length-map, length-replicate, List·getD-append, List·getD-eq-default}
 use lib.Seq.{drop-at}
-use borrow.Author.Tests.{ltb-true, lt-ltb}
 use Rattle.graph.specs.Below.{table, gather, only}
-use Rattle.graph.proofs.Below.{gather-ext, length-table, getD-table, is-false, map-kept}
+use Rattle.graph.proofs.Below.{gather-ext, length-table, getD-table, map-kept}
 use Rattle.rules.specs.Job.{Bytes, Row}
 use Rattle.rules.specs.Distance.{distance}
 use Rattle.rules.specs.Types.{Node, rowAt, rowsOf, nodeAt}
@@ -26,6 +24,7 @@ use Rattle.distances.specs.Area.{Measures}
 use Rattle.distances.proofs.Area.{cell-or-not}
 use Rattle.purge.specs.Left.{Chosen, isKept}
 use Rattle.purge.proofs.retire.Kept.{kept-gather}
+use Rattle.purge.proofs.retire.Squeezed.{squeezed-stays, squeezed-none}
 use Rattle.purge.proofs.retire.Laid.{partedRows, parted-wide, parted-laid}
 use Rattle.links.specs.Marks.{TellsLinks}
 use Rattle.purge.specs.Stay.{staying, Stays}
@@ -136,24 +135,19 @@ module _ {m : ℕ} {ws : List ℕ} {run : Run} {states : Bytes} {area : List ℕ
         let rise = chosen .rising i j h n in
         let c = chosen .few in
         once .distances-are .holds i j (omega (arith, holds .types-are), omega (arith, holds .types-are))
-        ∙ rw (lt-ltb i j h, lt-ltb j (stay .count) n) (holds .distances-are _ _ rise (rw length-map lies))
+        ∙ squeezed-stays (stay .kept) (stay .count) area i j h n ∙ holds .distances-are _ _ rise (rw length-map lies)
         ∙ ap₂ (distance ws) (sym (row-is i (omega arith))) (sym (row-is j n))
 
     -- The cells of the types that were are written, and behind them all was zero.
     zero-left : (p : ℕ) → ((i j : ℕ) → i < length (next .current) → j < length (next .current) → i ≢ j → p ≢ 128 * i + j) →
         getD area′ p 0 ≡ 0
     zero-left p other = ⊎-elim
-        (λ s. let (i, j, h, l, e) = s in rw e (once .distances-are .holds i j (h, l) ∙ rw (no-pair i j e)))
+        (λ s. let (i, j, h, l, e) = s in rw e (once .distances-are .holds i j (h, l)
+        ∙ squeezed-none (stay .kept) (stay .count) area i j
+        (λ g k. other i j (omega (arith, count-is)) (omega (arith, count-is)) (omega arith) e)))
         (λ none. once .distances-are .kept p (λ i j a. none i j (a .0) (a .1))
         ∙ holds .rest-zero p (λ i j h l ne. none i j (rw (holds .types-are) h) (rw (holds .types-are) l)))
         (cell-or-not (held .state .types) p few)
-      where
-        no-pair : (i j : ℕ) → p ≡ 128 * i + j → (ltb i j && ltb j (stay .count)) ≡ false
-        no-pair i j e = is-false _ (λ t.
-            let (a, b) = and-eq-true-iff (ltb i j) (ltb j (stay .count)) .0 t in
-            let h = ltb-true i j a in
-            let l = ltb-true j (stay .count) b in
-            other i j (omega (arith, count-is)) (omega (arith, count-is)) (omega arith) e)
 
     pub once-holds : Holds m ws next states′ area′ held′
     unfolding purgeOnce

@@ -1,7 +1,7 @@
 -- `distances::distance` meets its contract: after c characters the sum is that of the first c.
-use Prim.Native.Nat.{_-_, _<_}
+use Prim.Native.Nat.{_-_}
 use native.Mathlib.Omega.{arith}
-use Rattle.distances.proofs.Summed.{Summed, none-summed, all-summed, counts-little, one-more}
+use Rattle.distances.proofs.Summed.{Summed, none-summed, all-summed, one-more}
 use Rattle.distances.proofs.distance.Statement.{statement}
 use Rattle.distances.proofs.distance.Tie as tie
 
@@ -14,15 +14,13 @@ abbrev μ-loop : tie.MeasureT-loop
 loop-holds : tie.Need-loop-holds Inv-loop μ-loop
 loop-holds c = none-summed _ _ _ _
 
-add-sum : tie.Need-add-sum Inv-loop μ-loop
-add-sum c =
-    let l = c .before .before .before .before .before in
-    omega (arith, c .counted .ensures, l .loop .inv .small, counts-little _ _ _ _ (c .before .before .before .before .loop-test .taken) (l .loop .inv) (l .before .before .before .pre .0))
-
 loop-again : tie.Need-loop-again Inv-loop μ-loop
 loop-again c =
     let l = c .before .before .before .before .before in
     rw (c .counted .ensures) (one-more _ _ _ _ (c .before .before .before .before .loop-test .taken) (l .loop .inv) (l .before .before .before .pre .0))
+
+add-sum : tie.Need-add-sum Inv-loop μ-loop
+add-sum c = omega (arith, loop-again c .small)
 
 returns : tie.Need-returns Inv-loop μ-loop
 returns c =

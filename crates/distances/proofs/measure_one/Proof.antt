@@ -1,43 +1,25 @@
--- `distances::measure_one` meets its contract: the cells of type j in the lines passed are written.
-use mathlib.Core.Path.{_≡_, refl}
-use Prim.Native.Nat.{_-_, _≤_}
+-- `distances::measure_one` meets its contract: the cells of type j are passed line by line.
+use Prim.Native.Nat.{_+_, _-_}
 use native.Mathlib.Omega.{arith}
-use Rattle.distances.specs.Area.{CellsWritten, storedApart}
-use Rattle.distances.proofs.Area.{Column, column-more, column-new, none-written, written-as, written-more}
+use Rattle.distances.specs.Area.{CellsWritten, New, storedApart}
+use Rattle.distances.proofs.Area.{Passed, byLine, cell-passed, all-passed}
 use Rattle.distances.proofs.measure_one.Statement.{statement}
 use Rattle.distances.proofs.measure_one.Tie as tie
 
 abbrev Inv-loop : tie.InvT-loop
-Inv-loop states area₀ weights j i₀ area i = (i ≤ j) × CellsWritten (Column i j) (storedApart weights states) area₀ area
+Inv-loop states area₀ weights j i₀ area i = CellsWritten (Passed byLine (New j (j + 1)) i) (storedApart weights states) area₀ area
 
 abbrev μ-loop : tie.MeasureT-loop
 μ-loop states area₀ weights j i₀ area i = j - i
-
-loop-holds : tie.Need-loop-holds Inv-loop μ-loop
-loop-holds c = (omega arith, none-written (λ a b t. omega arith))
 
 distance-requires : tie.Need-distance-requires Inv-loop μ-loop
 distance-requires c κs = let p = c .before .before .before .before .before .pre in (p .0, omega arith, p .2)
 
 loop-again : tie.Need-loop-again Inv-loop μ-loop
-loop-again c =
-    let l = c .before .before in
-    let s = l .before .before .before .before in
-    let j = s .args .j in (
-      omega arith,
-      written-more (l .loop .inv .1) (λ a b t. omega arith) (l .loop .i) j _ (column-more (l .loop .i) j) (omega arith)
-          (c .distance .ensures),
-    )
-
-same-length : tie.Need-same-length Inv-loop μ-loop
-same-length c = c .before .loop .inv .1 .size
+loop-again c = cell-passed (c .before .before .loop .inv) (omega arith) (omega arith) (c .distance .ensures)
 
 returns : tie.Need-returns Inv-loop μ-loop
-returns c =
-    let l = c .before in
-    let j = l .before .before .before .before .args .j in
-    let e : l .loop .i ≡ j = omega arith in
-    written-as (rw e at (l .loop .inv .1)) (column-new j) (λ a b t. refl)
+returns c = all-passed (c .before .loop .inv) (omega arith)
 
 pub measure-one-spec : {M : Type 1} → statement M
 measure-one-spec =
@@ -45,7 +27,7 @@ measure-one-spec =
     (tie.spec
     Inv-loop
     μ-loop
-    loop-holds
+    (λ c. omega arith)
     distance-requires
     (λ c. omega arith)
     (λ c. omega arith)
@@ -54,5 +36,5 @@ measure-one-spec =
     (λ c. omega arith)
     (λ c. omega arith)
     loop-again
-    same-length
+    (λ c. omega arith)
     returns)

@@ -1,51 +1,27 @@
--- `links::links_before` meets its contract: after j types it counted the links with the first j.
-use mathlib.Core.Path.{_≡_, refl, _∙_}
-use Prim.Native.Nat.{_+_, _*_, _-_, _≤_}
+-- `links::links_before` meets its contract: the marks of the types passed are counted.
+use Prim.Native.Nat.{_-_}
 use native.Mathlib.Omega.{arith}
-use Rattle.graph.specs.Below.{sum}
-use Rattle.graph.proofs.Below.{count-le}
-use Rattle.spans.specs.Tree.{mirrored}
-use Rattle.links.specs.Marks.{marked, markCount}
-use Rattle.links.proofs.Marks.{count-more}
+use Rattle.links.proofs.Marks.{Counted, counted-none, counted-more, counted-all}
 use Rattle.links.proofs.links_before.Statement.{statement}
 use Rattle.links.proofs.links_before.Tie as tie
 
 abbrev Inv-loop : tie.InvT-loop
-Inv-loop area n i from links₀ j₀ links j = (j ≤ n) × (links ≡ markCount area j i)
+Inv-loop area n i from links₀ j₀ links j = Counted area i n j links
 
 abbrev μ-loop : tie.MeasureT-loop
 μ-loop area n i from links₀ j₀ links j = n - j
 
--- The mark read counts for the type passed.
-counted : (c : tie.After-one Inv-loop μ-loop) →
-    let l = c .before .before .before in
-    let a = l .before .before .args in
-    l .loop .links + c .one .result ≡ markCount (a .area .now) (l .loop .j + 1) (a .i)
-counted c =
-    let l = c .before .before .before in
-    let a = l .before .before .args in
-    let e : mirrored (a .i) (l .loop .j) ≡ 128 * a .i + l .loop .j = omega arith in
-    let more = rw e at (count-more (a .area .now) (a .i) (l .loop .j) (λ t. omega arith)) in
-    omega (arith, more, l .loop .inv .1, c .one .ensures)
-
 loop-holds : tie.Need-loop-holds Inv-loop μ-loop
-unfolding sum
-loop-holds c = (omega arith, refl)
-
-add-links : tie.Need-add-links Inv-loop μ-loop
-add-links c =
-    let l = c .before .before .before in
-    let a = l .before .before .args in
-    omega (arith, count-le (l .loop .j + 1) (marked (a .area .now) (a .i)), counted c)
+loop-holds c = counted-none
 
 loop-again : tie.Need-loop-again Inv-loop μ-loop
-loop-again c = (omega arith, counted c)
+loop-again c = counted-more _ (c .before .before .before .loop .inv) (omega arith) (c .one .ensures)
+
+add-links : tie.Need-add-links Inv-loop μ-loop
+add-links c = omega (arith, loop-again c .few)
 
 returns : tie.Need-returns Inv-loop μ-loop
-returns c =
-    let l = c .before in
-    let e : l .loop .j ≡ l .before .before .args .n = omega arith in
-    l .loop .inv .1 ∙ rw e
+returns c = counted-all (omega arith) (c .before .loop .inv)
 
 pub links-before-spec : {M : Type 1} → statement M
 links-before-spec =

@@ -1,39 +1,27 @@
--- `links::mark` meets its contract: the mirror cells of the types passed are marked.
-use mathlib.Core.Path.{_≡_}
-use Prim.Native.Nat.{_-_, _≤_}
+-- `links::mark` meets its contract: the mirror cells are passed line by line. Each is read before it is written.
+use Prim.Native.Nat.{_-_}
 use native.Mathlib.Omega.{arith}
 use Rattle.distances.specs.Area.{CellsWritten}
-use Rattle.distances.proofs.Area.{none-written}
+use Rattle.distances.proofs.Area.{Passed, byLine, cell-kept, part-passed, all-passed}
 use Rattle.spans.specs.Tree.{Mirror}
 use Rattle.links.specs.Marks.{mark}
-use Rattle.links.proofs.Marks.{line-marked}
 use Rattle.links.proofs.mark.Statement.{statement}
 use Rattle.links.proofs.mark.Tie as tie
 
 abbrev Inv-loop : tie.InvT-loop
-Inv-loop area₀ spans n epsilon j₀ area j = (j ≤ n) × CellsWritten (Mirror j) (mark epsilon spans area₀) area₀ area
+Inv-loop area₀ spans n epsilon j₀ area j = CellsWritten (Passed byLine (Mirror n) j) (mark epsilon spans area₀) area₀ area
 
 abbrev μ-loop : tie.MeasureT-loop
 μ-loop area₀ spans n epsilon j₀ area j = n - j
 
-loop-holds : tie.Need-loop-holds Inv-loop μ-loop
-loop-holds c = (omega arith, none-written (λ a b t. omega arith))
-
 loop-again : tie.Need-loop-again Inv-loop μ-loop
 loop-again c =
     let m = c .before .before in
-    let l = m .before .before .before in
-    let a = l .before .before .before .args in
-    (omega arith, line-marked (a .epsilon) (l .loop .j) (a .spans .now) (a .area .now) (omega arith) (l .loop .inv .1) (m .mark-line .ensures))
-
-same-length : tie.Need-same-length Inv-loop μ-loop
-same-length c = c .before .loop .inv .1 .size
+    let w = m .before .before .before .loop .inv in
+    part-passed w (omega arith) (m .mark-line .ensures) (λ a b t. rw (cell-kept w (omega arith) a b (omega arith) (omega arith)))
 
 returns : tie.Need-returns Inv-loop μ-loop
-returns c =
-    let l = c .before in
-    let e : l .loop .j ≡ l .before .before .before .args .n = omega arith in
-    rw e at (l .loop .inv .1)
+returns c = all-passed (c .before .loop .inv) (omega arith)
 
 pub mark-spec : {M : Type 1} → statement M
 mark-spec =
@@ -41,10 +29,10 @@ mark-spec =
     (tie.spec
     Inv-loop
     μ-loop
-    loop-holds
+    (λ c. omega arith)
     (λ c κs. omega arith)
     (λ c. omega arith)
     (λ c. omega arith)
     loop-again
-    same-length
+    (λ c. omega arith)
     returns)

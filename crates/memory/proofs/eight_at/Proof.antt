@@ -17,26 +17,17 @@ abbrev μ-loop : tie.MeasureT-loop
 loop-holds : tie.Need-loop-holds Inv-loop μ-loop
 loop-holds c = (none-spelt _ _ _, λ h. absurd (omega arith))
 
-add-byte : tie.Need-add-byte Inv-loop μ-loop
-add-byte c = omega (arith, c .before .loop .inv .0 .passed)
-
-shared-slice-read-byte : tie.Need-shared-slice-read-byte Inv-loop μ-loop
-shared-slice-read-byte c = omega (arith, c .before .before .loop .inv .0 .passed)
-
 cast-byte : tie.Need-cast-byte Inv-loop μ-loop
 cast-byte c = fits-8-64 (c .shared-slice-known .given _)
-
-mul-word : tie.Need-mul-word Inv-loop μ-loop
-mul-word c =
-    let l = c .before .before in
-    let i = l .before .args .i in
-    omega (arith, one-fits _ _ _ _ _ _ (omega arith) (l .loop .inv .0) refl (λ x. omega (arith, c .shared-slice-known .given (i + x))))
 
 add-word : tie.Need-add-word Inv-loop μ-loop
 add-word c =
     let l = c .before .before in
     let i = l .before .args .i in
     omega (arith, one-fits _ _ _ _ _ _ (omega arith) (l .loop .inv .0) refl (λ x. omega (arith, c .shared-slice-known .given (i + x))))
+
+mul-word : tie.Need-mul-word Inv-loop μ-loop
+mul-word c = omega (arith, add-word c)
 
 loop-again : tie.Need-loop-again Inv-loop μ-loop
 loop-again c = (one-spelt _ _ _ _ _ _ (omega arith) (c .before .before .loop .inv .0) refl, λ h p. omega (arith, c .shared-slice-known .given p))
@@ -54,8 +45,8 @@ eight-at-spec =
     μ-loop
     loop-holds
     (λ c. omega arith)
-    add-byte
-    shared-slice-read-byte
+    (λ c. omega arith)
+    (λ c. omega arith)
     cast-byte
     mul-word
     add-word

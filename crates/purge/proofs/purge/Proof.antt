@@ -1,5 +1,4 @@
 -- `purge::purge` meets its contract: whenever links were found, memory holds a run that purges to what the run at entry purges to.
-use mathlib.Core.Path.{_∙_}
 use Prim.Native.Nat.{_<_}
 use native.Mathlib.Omega.{arith}
 use Rattle.purge.proofs.Purging.{Purging, purging-none, purging-chosen, fewer-types, same-phase, one-time-more, all-purged}
@@ -56,14 +55,6 @@ loop-again c =
     let p = a .before .before .before .before .before .before .before .pre in
     one-time-more (a .loop .inv) (fewer f) (f .purge-once .ensures) (p .3) (c .before .before .survey2 .ensures)
 
-same-length : tie.Need-same-length Inv-loop μ-loop
-same-length c = c .before .before .before .loop .inv .states-size
-
-same-length-2 : tie.Need-same-length-2 Inv-loop μ-loop
-same-length-2 c =
-    let a = c .before .before .before in
-    a .loop .inv .area-size ∙ a .before .before .before .survey .ensures .found .size
-
 returns : tie.Need-returns Inv-loop μ-loop
 returns c =
     let a = c .before .before .before in
@@ -82,6 +73,6 @@ purge-spec =
     survey-requires-2
     loop-less
     loop-again
-    same-length
-    same-length-2
+    (λ c. omega arith)
+    (λ c. omega arith)
     returns)

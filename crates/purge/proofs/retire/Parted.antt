@@ -77,11 +77,6 @@ pub record Parting (kept : List ℕ) (count t made : ℕ) (b area : Bytes) (i a 
   pub front : length (stays kept count b i) ≡ 64 * a
   pub area-is : area ≡ placed b 0 (parted kept count i made b)
 
--- The same, by other names for what is equal.
-pub parting-as : {kept : List ℕ} {count t made i a a′ : ℕ} {b area area′ : Bytes} → Parting kept count t made b area i a →
-    area′ ≡ area → a′ ≡ a → Parting kept count t made b area′ i a′
-parting-as p e g = rw (e, g) p
-
 -- What stands at the front, placed there again.
 front-again : (b : Bytes) (n : ℕ) → n ≤ length b → b ≡ placed b 0 (take n b)
 unfolding placed

@@ -3,10 +3,10 @@ use mathlib.Core.Path.{_≡_, _∙_}
 use mathlib.Core.List.{List}
 use Prim.Native.Nat.{ℕ, _+_, _<_}
 use native.Mathlib.Nat.{not-suc-le-zero}
-use native.Mathlib.Decide.{ℕ-discrete}
 use native.Mathlib.Omega.{arith}
 use lib.ListN.{getD, set, replicate, length-set, length-replicate, getD-replicate}
 use lib.Seq.{getD-set-same, getD-set-other}
+use borrow.Author.Count.{below-more}
 use Rattle.rules.specs.declared.Kind.{Kind}
 use Rattle.types.specs.State.{blank}
 use Rattle.purge.specs.Left.{KindsLeft}
@@ -25,9 +25,7 @@ one-kind-more {kinds} {left} {kept} {a} k h =
     let v = getD kinds (getD kept a 0) blank in
     record {
       size = length-set left a v ∙ k .size;
-      stay = λ b l. elim (ℕ-discrete b a) [
-        | yes e ↦ rw e (getD-set-same left a v blank (omega (arith, k .size)))
-        | no ne ↦ getD-set-other left a b v blank ne ∙ k .stay b (omega arith)
-      ];
+      stay = below-more _ a (λ b l. getD-set-other left a b v blank (omega arith) ∙ k .stay b l)
+          (getD-set-same left a v blank (omega (arith, k .size)));
       none = λ b l m. getD-set-other left a b v blank (omega arith) ∙ k .none b (omega arith) m;
     }

@@ -60,7 +60,7 @@ unfolding gather
 none-passed p kept e = record { size = e; count-is = refl; kept-is = λ a h. absurd (not-suc-le-zero h) }
 
 module _ (p : ℕ → Bool) {i count : ℕ} {kept : List ℕ} (stays : Stays (places i p) (record { kept = kept; count = count })) where
-  pub few-passed : count ≤ i
+  few-passed : count ≤ i
   few-passed = stays-chosen i p stays .few
 
   pub one-goes : p i ≡ false → Stays (places (i + 1) p) (record { kept = kept; count = count })

@@ -8,7 +8,7 @@ use lib.ListN.{length, getD, set}
 use Rattle.rules.specs.declared.Kind.{Kind}
 use Rattle.types.specs.State.{blank}
 use Rattle.purge.specs.Stay.{obsoleteIn, staying, Stays}
-use Rattle.purge.proofs.stay.Places.{places, none-passed, few-passed, one-goes, one-stays}
+use Rattle.purge.proofs.stay.Places.{places, none-passed, one-goes, one-stays}
 
 abbrev pub stayIn : List ℕ → List Kind → ℕ → ℕ → Bool
 stayIn area kinds t i = not (obsoleteIn area t (getD kinds i blank) i)
@@ -16,31 +16,26 @@ stayIn area kinds t i = not (obsoleteIn area t (getD kinds i blank) i)
 pub record Passed (area : List ℕ) (kinds : List Kind) (t : ℕ) (kept : List ℕ) (count i : ℕ) : Type 0 where
   pub few : t ≤ 128
   pub read : i ≤ t
+  pub count-few : count ≤ i
   pub stays : Stays (places i (stayIn area kinds t)) (record { kept = kept; count = count })
 
 pub passed-none : {area : List ℕ} {kinds : List Kind} {t : ℕ} {kept : List ℕ} → t ≤ 128 → length kept ≡ 128 → Passed area kinds t kept 0 0
-passed-none {area} {kinds} {t} {kept} few e = record { few = few; read = omega arith; stays = none-passed (stayIn area kinds t) kept e }
+passed-none {area} {kinds} {t} {kept} few e = record { few = few; read = omega arith; count-few = omega arith; stays = none-passed (stayIn area kinds t) kept e }
 
 module _ {area : List ℕ} {kinds : List Kind} {t : ℕ} {kept : List ℕ} {count i : ℕ} (passed : Passed area kinds t kept count i) where
   abbrev stay : ℕ → Bool
   stay = stayIn area kinds t
 
-  pub count-few : count ≤ i
-  count-few = few-passed stay (passed .stays)
-
   -- By what the test said of type i.
   module _ {r : Bool} (h : i < t) (is : r ≡ obsoleteIn area t (getD kinds i blank) i) where
     pub passed-goes : not r ≡ false → Passed area kinds t kept count (i + 1)
-    passed-goes e = record { few = passed .few; read = omega arith; stays = one-goes stay (passed .stays) (ap not (sym is) ∙ e) }
+    passed-goes e =
+        record { few = passed .few; read = omega arith; count-few = omega arith; stays = one-goes stay (passed .stays) (ap not (sym is) ∙ e) }
 
     pub passed-stays : not r ≡ true → Passed area kinds t (set kept count i) (count + 1) (i + 1)
-    passed-stays e = let b = passed .few in
-        record { few = b; read = omega arith; stays = one-stays stay (passed .stays) (omega arith) (ap not (sym is) ∙ e) }
+    passed-stays e =
+        record { few = passed .few; read = omega arith; count-few = omega arith; stays = one-stays stay (passed .stays) (omega arith) (ap not (sym is) ∙ e) }
 
   pub all-passed : t ≤ i → Stays (staying area kinds t) (record { kept = kept; count = count })
   unfolding staying
   all-passed l = let e : i ≡ t = omega (arith, passed .read) in rw e at (passed .stays)
-
-pub passed-as : {area : List ℕ} {kinds : List Kind} {t : ℕ} {kept kept′ : List ℕ} {count count′ i : ℕ} → Passed area kinds t kept count i →
-    kept′ ≡ kept → count′ ≡ count → Passed area kinds t kept′ count′ i
-passed-as p a b = rw (a, b) p

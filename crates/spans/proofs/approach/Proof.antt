@@ -4,7 +4,7 @@ use Prim.Native.Nat.{_-_, _≤_, max}
 use native.Mathlib.Omega.{arith}
 use lib.ListN.{getD}
 use Rattle.spans.specs.Growth.{nearer, Filled, Least}
-use Rattle.spans.proofs.Turns.{filled-none, filled-more, least-none, least-more}
+use Rattle.spans.proofs.Turns.{filled-more, least-none, least-more}
 use Rattle.spans.proofs.approach.Statement.{statement}
 use Rattle.spans.proofs.approach.Tie as tie
 
@@ -17,7 +17,7 @@ abbrev μ-loop : tie.MeasureT-loop
 μ-loop area wide near₀ inside v from least₀ u₀ near least u = wide - u
 
 loop-holds : tie.Need-loop-holds Inv-loop μ-loop
-loop-holds c = (omega arith, filled-none, least-none)
+loop-holds c = (omega arith, omega arith, least-none)
 
 loop-again : tie.Need-loop-again Inv-loop μ-loop
 loop-again c =
@@ -28,9 +28,6 @@ loop-again c =
     let far : c .before .before .before .lesser .result ≡ nearer (s .args .v) (s .args .area .now) (s .args .near .now) u =
     omega (arith, c .before .before .before .lesser .ensures, f .kept u (omega arith)) in
     (omega arith, filled-more f (omega arith) far, least-more m (omega (arith, c .before .longer .ensures, c .lesser2 .ensures)))
-
-same-length : tie.Need-same-length Inv-loop μ-loop
-same-length c = c .before .loop .inv .1 .size
 
 returns : tie.Need-returns Inv-loop μ-loop
 returns c =
@@ -62,5 +59,5 @@ approach-spec =
     (λ c. omega arith)
     (λ c. omega arith)
     loop-again
-    same-length
+    (λ c. omega arith)
     returns)

@@ -3,7 +3,7 @@ use mathlib.Core.Path.{_≡_}
 use Prim.Native.Nat.{_-_, _≤_}
 use native.Mathlib.Omega.{arith}
 use Rattle.spans.specs.Growth.{NearestFound}
-use Rattle.spans.proofs.Turns.{found-none, found-more}
+use Rattle.spans.proofs.Turns.{found-more}
 use Rattle.spans.proofs.find.Statement.{statement}
 use Rattle.spans.proofs.find.Tie as tie
 
@@ -12,9 +12,6 @@ Inv-loop wide near inside x found₀ u₀ found u = (u ≤ wide) × NearestFound
 
 abbrev μ-loop : tie.MeasureT-loop
 μ-loop wide near inside x found₀ u₀ found u = wide - u
-
-loop-holds : tie.Need-loop-holds Inv-loop μ-loop
-loop-holds c = (omega arith, found-none)
 
 loop-again : tie.Need-loop-again Inv-loop μ-loop
 loop-again c =
@@ -33,7 +30,7 @@ find-spec =
     (tie.spec
     Inv-loop
     μ-loop
-    loop-holds
+    (λ c. omega arith)
     (λ c. omega arith)
     (λ c. omega arith)
     (λ c. omega arith)

@@ -4,7 +4,7 @@ use Prim.Native.Nat.{_-_, _≤_}
 use native.Mathlib.Omega.{arith}
 use lib.ListN.{replicate, getD-replicate}
 use Rattle.spans.specs.Growth.{Filled}
-use Rattle.spans.proofs.Turns.{filled-none, filled-more}
+use Rattle.spans.proofs.Turns.{filled-more}
 use Rattle.spans.proofs.none_inside.Statement.{statement}
 use Rattle.spans.proofs.none_inside.Tie as tie
 
@@ -13,9 +13,6 @@ Inv-loop n inside₀ u₀ inside u = (u ≤ n) × Filled u (λ x. 0) (replicate 
 
 abbrev μ-loop : tie.MeasureT-loop
 μ-loop n inside₀ u₀ inside u = n - u
-
-loop-holds : tie.Need-loop-holds Inv-loop μ-loop
-loop-holds c = (omega arith, filled-none)
 
 loop-again : tie.Need-loop-again Inv-loop μ-loop
 loop-again c = (omega arith, filled-more (c .before .loop .inv .1) (omega arith) refl)
@@ -33,7 +30,7 @@ none-inside-spec =
     (tie.spec
     Inv-loop
     μ-loop
-    loop-holds
+    (λ c. omega arith)
     (λ c. omega arith)
     (λ c. omega arith)
     (λ c. omega arith)

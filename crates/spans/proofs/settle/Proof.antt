@@ -56,9 +56,6 @@ loop-again c =
       settling-more few room long (s .pre .3 .types) (s .pre .3 .once) small refl (omega arith) (omega arith) (rw e at m) f w,
     )
 
-same-length : tie.Need-same-length Inv-loop μ-loop
-same-length c = c .before .loop .inv .1
-
 returns : tie.Need-returns Inv-loop μ-loop
 returns c = let (h, size, long, s) = c .before .loop .inv in settling-all (omega arith) size s
 
@@ -84,5 +81,5 @@ settle-spec =
     settle-line-requires
     (λ c. omega arith)
     loop-again
-    same-length
+    (λ c. omega arith)
     returns)

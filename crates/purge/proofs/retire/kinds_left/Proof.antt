@@ -17,11 +17,11 @@ abbrev μ-loop : tie.MeasureT-loop
 loop-holds : tie.Need-loop-holds Inv-loop μ-loop
 loop-holds c = (omega arith, no-kind (c .no-kinds .ensures))
 
-mul-kind-2 : tie.Need-mul-kind-2 Inv-loop μ-loop
-mul-kind-2 c = let l = c .before .before .loop in omega (arith, c .before .before .before .before .before .pre .within (l .a) (omega arith))
-
 array-copy-out-kind : tie.Need-array-copy-out-kind Inv-loop μ-loop
 array-copy-out-kind c = let l = c .before .before .loop in c .before .before .before .before .before .pre .within (l .a) (omega arith)
+
+mul-kind-2 : tie.Need-mul-kind-2 Inv-loop μ-loop
+mul-kind-2 c = omega (arith, array-copy-out-kind c)
 
 loop-again : tie.Need-loop-again Inv-loop μ-loop
 loop-again c =

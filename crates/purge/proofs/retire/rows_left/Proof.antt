@@ -1,10 +1,9 @@
 -- `retire::rows_left` meets its contract: so many rows are parted.
-use mathlib.Core.Path.{_∙_}
 use mathlib.Core.Logic.{⊎-elim}
 use Prim.Native.Nat.{_-_}
 use native.Mathlib.Omega.{arith}
 use borrow.Author.Tests.{eqb-true, eqb-false}
-use Rattle.purge.proofs.retire.Parted.{Parting, parting-as, none-parted, same-size, few-stay, one-stays, one-goes, all-parted}
+use Rattle.purge.proofs.retire.Parted.{Parting, none-parted, same-size, few-stay, one-stays, one-goes, all-parted}
 use Rattle.purge.proofs.retire.rows_left.Statement.{statement}
 use Rattle.purge.proofs.retire.rows_left.Tie as tie
 
@@ -27,9 +26,9 @@ loop-again c =
     let p = c .before .before .loop .inv in
     let h = c .before .loop-test .taken in
     ⊎-elim
-    (λ w. parting-as (one-stays p h (w .0 .taken, eqb-true _ _ (w .2 .taken))) (w .3) (w .4))
-    (λ w. parting-as (one-goes p h (λ n. ⊎-elim (λ v. eqb-false _ _ (v .2 .left) (n .1)) (λ v. omega (arith, v .left, n .0)) (w .0 .came)))
-    (w .5 ∙ w .2 .ensures) (w .6))
+    (λ w. rw (w .3, w .4) (one-stays p h (w .0 .taken, eqb-true _ _ (w .2 .taken))))
+    (λ w. rw (w .5, w .2 .ensures, w .6)
+    (one-goes p h (λ n. ⊎-elim (λ v. eqb-false _ _ (v .2 .left) (n .1)) (λ v. omega (arith, v .left, n .0)) (w .0 .came))))
     (c .if1 .came)
 
 same-length : tie.Need-same-length Inv-loop μ-loop

@@ -6,7 +6,6 @@ use native.Mathlib.Omega.{arith}
 use lib.ListN.{length, length-set}
 use Rattle.rules.specs.Job.{Bytes}
 use Rattle.memory.specs.Placed.{placed}
-use Rattle.memory.proofs.Placed.{length-placed}
 use Rattle.purge.proofs.retire.Moved.{moved, moved-none, moved-more, row-behind}
 use Rattle.purge.proofs.retire.to_the_end.Statement.{statement}
 use Rattle.purge.proofs.retire.to_the_end.Tie as tie
@@ -25,11 +24,6 @@ loop-again : tie.Need-loop-again Inv-loop μ-loop
 loop-again c =
     let l = c .before .before .loop in
     (omega arith, omega arith, simp length-set (l .inv .2), moved-more _ _ (l .c) (l .states) (omega arith) (omega arith) (l .inv .3))
-
-same-length : tie.Need-same-length Inv-loop μ-loop
-same-length c =
-    let l = c .before .before .before .before .before .before .loop in
-    ap length (c .before .before .copy .ensures) ∙ length-placed (l .states) _ _ (omega arith) ∙ l .inv .2
 
 returns : tie.Need-returns Inv-loop μ-loop
 returns c =
@@ -60,5 +54,5 @@ to-the-end-spec =
     loop-again
     (λ c. omega arith)
     (λ c κs. omega arith)
-    same-length
+    (λ c. omega arith)
     returns)

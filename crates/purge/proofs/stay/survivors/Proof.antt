@@ -3,7 +3,7 @@ use mathlib.Core.Path.{refl}
 use mathlib.Core.Logic.{⊎-elim}
 use Prim.Native.Nat.{_-_}
 use native.Mathlib.Omega.{arith}
-use Rattle.purge.proofs.stay.Staying.{Passed, passed-as, passed-none, count-few, passed-goes, passed-stays, all-passed}
+use Rattle.purge.proofs.stay.Staying.{Passed, passed-none, passed-goes, passed-stays, all-passed}
 use Rattle.purge.proofs.stay.survivors.Statement.{statement}
 use Rattle.purge.proofs.stay.survivors.Tie as tie
 
@@ -16,23 +16,14 @@ abbrev μ-loop : tie.MeasureT-loop
 loop-holds : tie.Need-loop-holds Inv-loop μ-loop
 loop-holds c = passed-none (omega arith) refl
 
-mul-kept : tie.Need-mul-kept Inv-loop μ-loop
-mul-kept c = omega (arith, count-few (c .before .before .before .before .loop .inv))
-
-array-write-kept : tie.Need-array-write-kept Inv-loop μ-loop
-array-write-kept c = omega (arith, count-few (c .before .before .before .before .loop .inv))
-
-add-count : tie.Need-add-count Inv-loop μ-loop
-add-count c = omega (arith, count-few (c .before .before .before .before .loop .inv))
-
 loop-again : tie.Need-loop-again Inv-loop μ-loop
 loop-again c =
     let f = c .before in
     let l = f .before .before .before .loop in
     let h = f .before .before .loop-test .taken in
     ⊎-elim
-    (λ w. passed-as (passed-stays (l .inv) h (f .obsolete .ensures) (w .0 .taken)) (w .1) (w .2))
-    (λ w. passed-as (passed-goes (l .inv) h (f .obsolete .ensures) (w .0 .left)) (w .1) (w .2))
+    (λ w. rw (w .1, w .2) (passed-stays (l .inv) h (f .obsolete .ensures) (w .0 .taken)))
+    (λ w. rw (w .1, w .2) (passed-goes (l .inv) h (f .obsolete .ensures) (w .0 .left)))
     (c .if1 .came)
 
 returns : tie.Need-returns Inv-loop μ-loop
@@ -48,9 +39,9 @@ survivors-spec =
     (λ c. omega arith)
     (λ c. omega arith)
     (λ c κs. omega arith)
-    mul-kept
-    array-write-kept
-    add-count
+    (λ c. omega arith)
+    (λ c. omega arith)
+    (λ c. omega arith)
     (λ c. omega arith)
     (λ c. omega arith)
     loop-again
