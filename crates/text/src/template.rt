@@ -6,7 +6,7 @@ ghost use lib.ListN.{length};
 ghost use Rattle.memory.specs.Placed.{Follows};
 ghost use Rattle.text.specs.Template.{piece, filled};
 use memory::decimals::put;
-use memory::decimals::say;
+use memory::decimals::put_decimal;
 
 // What one byte of the text gives. What is handed back, here and below, is the place behind it.
 fn put_piece(out: &mut [u8], at: usize, byte: u8, numbers: &[usize], row: &[u8]) -> usize
@@ -15,13 +15,13 @@ fn put_piece(out: &mut [u8], at: usize, byte: u8, numbers: &[usize], row: &[u8])
 {
     let mark = byte as usize;
     if mark < numbers.len() {
-        return say(out, at, b"", numbers[mark]);
+        return put_decimal(out, at, numbers[mark]);
     }
     if mark == numbers.len() {
         return put(out, at, row);
     }
-    let itself = [byte];
-    put(out, at, &itself)
+    out[at] = byte;
+    at + 1
 }
 
 pub fn fill(out: &mut [u8], at: usize, s: &[u8], numbers: &[usize], row: &[u8]) -> usize
