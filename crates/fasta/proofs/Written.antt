@@ -4,8 +4,7 @@ use mathlib.Core.List.{[], _∷_, _++_}
 use Prim.Native.Nat.{ℕ, zero, suc, _+_, _*_, _≤_, _<_}
 use native.Mathlib.Numerals.{add-one}
 use native.Mathlib.Omega.{arith}
-use lib.ListN.{length, set, length-replicate}
-use lib.Seq.{sets-eq}
+use lib.ListN.{length, length-replicate}
 use Rattle.graph.specs.Below.{only}
 use Rattle.rules.specs.Job.{Bytes}
 use Rattle.rules.specs.Result.{words}
@@ -43,8 +42,3 @@ module _ (b : Bytes) where
 -- What a byte of the text adds to the states.
 abbrev pub stateAt : Bytes → ℕ → Bytes
 stateAt text i = only (isState text i) (byteAt text i)
-
--- One byte stored.
-pub stored : (b : Bytes) (at v : ℕ) → at < length b → Follows b at (v ∷ []) (set b at v) (at + 1)
-unfolding placed
-stored b at v h = record { is = sets-eq (v ∷ []) b at (omega arith); behind = refl }

@@ -1,9 +1,10 @@
 -- What is written in pieces is written as one: piece behind piece, with room for each.
 use mathlib.Core.Path.{_≡_, refl, sym, ap, _∙_}
-use mathlib.Core.List.{List, [], _++_}
+use mathlib.Core.List.{List, [], _∷_, _++_}
 use Prim.Native.Nat.{ℕ, _+_, _-_, _≤_, _<_}
 use native.Mathlib.Omega.{arith}
-use lib.ListN.{length, length-append}
+use lib.ListN.{length, set, length-append}
+use lib.Seq.{sets-eq}
 use Rattle.graph.specs.Below.{gather}
 use Rattle.graph.proofs.Below.{gather-more, gather-add}
 use Rattle.memory.specs.Placed.{placed, Follows}
@@ -12,6 +13,11 @@ use Rattle.memory.proofs.Placed.{placed-none, placed-twice, length-plac
 module _ {A : Type 0} where
   pub follows-none : (b : List A) (at : ℕ) → Follows b at [] b at
   follows-none b at = record { is = placed-none b at; behind = omega arith }
+
+  -- One store.
+  pub follows-stored : (b : List A) (at : ℕ) (v : A) → at < length b → Follows b at (v ∷ []) (set b at v) (at + 1)
+  unfolding placed
+  follows-stored b at v h = record { is = sets-eq (v ∷ []) b at (omega arith); behind = refl }
 
   pub follows-once : {b xs b′ : List A} {at : ℕ} → b′ ≡ placed b at xs → Follows b at xs b′ (at + length xs)
   follows-once e = record { is = e; behind = refl }

@@ -1,7 +1,6 @@
 // The corner of decimals: a text and a number in decimals, one behind the other, in memory that is lent. Leaf code that knows nothing of
 // networks.
 
-ghost use mathlib.Core.List.{_++_};
 ghost use Prim.Native.Nat.{_+_, _≤_};
 ghost use lib.ListN.{length};
 ghost use Rattle.rules.specs.Text.{decimal};
@@ -18,7 +17,7 @@ pub fn put(out: &mut [u8], at: usize, s: &[u8]) -> usize
 }
 
 // A number in decimals: 20 digits are enough for any.
-fn put_decimal(out: &mut [u8], at: usize, x: usize) -> usize
+pub fn put_decimal(out: &mut [u8], at: usize, x: usize) -> usize
     requires { ⌜ at + length (decimal x) ≤ length (now out) ⌝ }
     ensures { λ r. ⌜ Follows (now (out .entry)) at (decimal x) (now (out .exit)) r ⌝ }
 {
@@ -32,13 +31,4 @@ fn put_decimal(out: &mut [u8], at: usize, x: usize) -> usize
     }
     digits[first] = (48 + left) as u8;
     put(out, at, &digits[first..])
-}
-
-// A text and a number behind it.
-pub fn say(out: &mut [u8], at: usize, s: &[u8], x: usize) -> usize
-    requires { ⌜ at + length (now s ++ decimal x) ≤ length (now out) ⌝ }
-    ensures { λ r. ⌜ Follows (now (out .entry)) at (now (s .entry) ++ decimal x) (now (out .exit)) r ⌝ }
-{
-    let at = put(out, at, s);
-    put_decimal(out, at, x)
 }

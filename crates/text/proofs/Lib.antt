@@ -2,3 +2,4 @@ pub mod Network
 pub mod Room
 pub mod Left
 pub mod Once
+pub mod Lines

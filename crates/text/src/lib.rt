@@ -2,6 +2,7 @@
 // answer into memory that is lent. Job and block are only read.
 
 pub mod listing;
+pub mod template;
 
 ghost use mathlib.Core.Path.{_≡_};
 ghost use Prim.Native.Nat.{_≤_};
@@ -13,12 +14,11 @@ ghost use Rattle.text.specs.Printed.{ToldText, refusalOf, lineRoom, netw
 use crate::listing::put_link_lines;
 use crate::listing::put_network_line;
 use crate::listing::put_type_lines;
+use crate::template::fill;
 use answers::Told;
 use answers::tell;
 use lookup::matching::block_matches;
 use memory::clear_bytes;
-use memory::decimals::put;
-use memory::decimals::say;
 use memory::word_at;
 use rules::Answer;
 use rules::LINK_SIZE;
@@ -74,9 +74,8 @@ fn put_refusal(number: usize, place: usize, out: &mut [u8]) -> usize
     requires { ⌜ lineRoom ≤ length (now out) ⌝ }
     ensures { λ r. ⌜ Follows (now (out .entry)) 0 (refusalOf number place) (now (out .exit)) r ⌝ }
 {
-    let at = say(out, 0, b"refused ", number);
-    let at = say(out, at, b" ", place);
-    put(out, at, b"\n")
+    let numbers = [number, place];
+    fill(out, 0, b"refused \x00 \x01\n", &numbers, b"")
 }
 
 fn put_network<'a>(job: &'a [u8], block: &'a [u8], out: &mut [u8]) -> usize

@@ -8,9 +8,8 @@ ghost use Rattle.rules.specs.Job.{word};
 ghost use Rattle.rules.specs.Lookup.{typesIn};
 ghost use Rattle.memory.specs.Placed.{Follows};
 ghost use Rattle.text.specs.Lines.{Legible, networkLineOf, typeLineOf, typeLinesOf, linkLineOf, linkLinesOf};
+use crate::template::fill;
 use lookup::states_in;
-use memory::decimals::put;
-use memory::decimals::say;
 use memory::word_at;
 use rules::LINK_SIZE;
 use rules::RECORD_SIZE;
@@ -21,11 +20,19 @@ pub fn put_network_line(block: &[u8], out: &mut [u8], at: usize) -> usize
     requires { ⌜ (recordsOffset ≤ length (now block)) × (at + length (networkLineOf (now block)) ≤ length (now out)) ⌝ }
     ensures { λ r. ⌜ Follows (now (out .entry)) at (networkLineOf (now (block .entry))) (now (out .exit)) r ⌝ }
 {
-    let at = say(out, at, b"types ", word_at(block, 0));
-    let at = say(out, at, b" sampled ", word_at(block, 2));
-    let at = say(out, at, b" links ", word_at(block, 6));
-    let at = say(out, at, b" rounds ", word_at(block, 8));
-    put(out, at, b"\n")
+    let numbers = [
+        word_at(block, 0),
+        word_at(block, 2),
+        word_at(block, 6),
+        word_at(block, 8),
+    ];
+    fill(
+        out,
+        at,
+        b"types \x00 sampled \x01 links \x02 rounds \x03\n",
+        &numbers,
+        b"",
+    )
 }
 
 // RULES 15.2: the line of a type. Job and block have one lifetime here and below, since the states are a part of either.
@@ -34,15 +41,13 @@ fn put_type_line<'a>(job: &'a [u8], block: &'a [u8], k: usize, out: &mut [u8], a
     ensures { λ r. ⌜ Follows (now (out .entry)) at (typeLineOf (now (job .entry)) (now (block .entry)) k) (now (out .exit)) r ⌝ }
 {
     let from = RECORDS_OFFSET + RECORD_SIZE * k;
-    let mut at = say(out, at, b"T ", k);
+    let states = states_in(job, block, k);
     if k < word_at(block, 2) {
-        at = say(out, at, b" S ", word_at(block, from));
-    } else {
-        at = say(out, at, b" I ", word_at(block, from + 4));
+        let numbers = [k, word_at(block, from)];
+        return fill(out, at, b"T \x00 S \x01 \x02\n", &numbers, states);
     }
-    at = put(out, at, b" ");
-    at = put(out, at, states_in(job, block, k));
-    put(out, at, b"\n")
+    let numbers = [k, word_at(block, from + 4)];
+    fill(out, at, b"T \x00 I \x01 \x02\n", &numbers, states)
 }
 
 pub fn put_type_lines<'a>(job: &'a [u8], block: &'a [u8], out: &mut [u8], at: usize) -> usize
@@ -64,10 +69,12 @@ fn put_link_line(block: &[u8], from: usize, out: &mut [u8], at: usize) -> usize
     requires { ⌜ (from + linkSize ≤ length (now block)) × (at + length (linkLineOf (now block) from) ≤ length (now out)) ⌝ }
     ensures { λ r. ⌜ Follows (now (out .entry)) at (linkLineOf (now (block .entry)) from) (now (out .exit)) r ⌝ }
 {
-    let at = say(out, at, b"L ", word_at(block, from));
-    let at = say(out, at, b" ", word_at(block, from + 2));
-    let at = say(out, at, b" ", word_at(block, from + 4));
-    put(out, at, b"\n")
+    let numbers = [
+        word_at(block, from),
+        word_at(block, from + 2),
+        word_at(block, from + 4),
+    ];
+    fill(out, at, b"L \x00 \x01 \x02\n", &numbers, b"")
 }
 
 pub fn put_link_lines(block: &[u8], out: &mut [u8], at: usize) -> usize

@@ -4,9 +4,8 @@ use mathlib.Core.Bool.{true}
 use native.Mathlib.Omega.{arith}
 use borrow.Author.Needs.{needs}
 use borrow.Author.Tests.{not-true, not-false}
-use Rattle.memory.proofs.Follows.{follows-none}
+use Rattle.memory.proofs.Follows.{follows-none, follows-stored}
 use Rattle.fasta.specs.Lines.{isState}
-use Rattle.fasta.proofs.Written.{stored}
 use Rattle.fasta.proofs.put_state.Statement.{statement}
 use Rattle.fasta.proofs.put_state.Tie as tie
 
@@ -20,7 +19,7 @@ slice-write-job : tie.Need-slice-write-job
 slice-write-job c = omega (arith, rw (state (c .before)) at (c .before .before .before .before .before .pre .1))
 
 returns-2 : tie.Need-returns-2
-returns-2 c = rw (state (c .before)) (stored _ _ _ (slice-write-job c))
+returns-2 c = rw (state (c .before)) (follows-stored _ _ _ (slice-write-job c))
 
 pub put-state-spec : {M : Type 1} → statement M
 put-state-spec =

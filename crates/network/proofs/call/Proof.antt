@@ -51,12 +51,13 @@ use Rattle.result.proofs.table.clear_links.Met as clear-thm
 use Rattle.network.specs.declared.draw.Sketch.{Sketch}
 use Rattle.network.proofs.draw.Sketch as S
 use Rattle.network.proofs.draw.Sketch.Laws as S′
-use Rattle.byhand.proofs.Lend.{Passed, entry, value, well-typed, named, held, gave, lends, back, lends-shr, back-shr}
+use Rattle.byhand.proofs.Lend.{entry, well-typed, named, held, gave, lends, back, lends-shr, back-shr}
 use Rattle.byhand.proofs.Locals.{Cells, enters, frees-locals}
 use Rattle.byhand.proofs.Loop.{Holds, sets}
 use Rattle.byhand.proofs.Meets.{Params, shared-param, given-param, Walk, Start, ends-with, meets}
 use Rattle.byhand.proofs.Told.{Told, calls-told, last-list}
 use Rattle.byhand.proofs.Body.{Blocks, env, reslices, unslices, whole-arg, field-arg, number, lands-nothing}
+use Rattle.network.proofs.Areas.{Areas, lfts, shares, refs, vals, areas-of}
 use Rattle.network.specs.Called.{Unlinked}
 use Rattle.network.proofs.Left.{listable, putable, called}
 use Rattle.network.proofs.sketch as answer′
@@ -100,19 +101,12 @@ module _ {M : Type 1} (𝓤 : URA M) (H : Heap 𝓤) (A : Atoms 𝓤) (W : Given
     clear : Triple 𝓤 (𝓣 .C clear-def.name) (Told 𝓤 H A clear′.ended (clear′.clauses 𝓤 H A mem run))
     words : Triple 𝓤 (𝓣 .C words-def.name) (Told 𝓤 H A words′.ended (words′.clauses 𝓤 H A mem run))
 
-  module _ (𝓣 : Tables 𝓤 H) (known : Knows 𝓣) (job result states : Passed u8) (distances : Passed u16) (links : Passed L.the-row) where
+  module _ (𝓣 : Tables 𝓤 H) (known : Knows 𝓣) (x : Areas) where
+    open Areas x using (job, result, states, distances, links)
+
     -- What the contract binds, and what is to be shown of the value that is returned.
     abbrev y : CallC .Ghost
-    y = (
-      (
-        (job .lft, (result .lft, (states .lft, (distances .lft, (links .lft, tt))))),
-        (job .share, (result .share, (states .share, (distances .share, (links .share, tt))))),
-        tt,
-        (job .ref, (result .ref, (states .ref, (distances .ref, (links .ref, tt))))),
-        (value job ∷ [], (value result ∷ [], (value states ∷ [], (value distances ∷ [], (value links ∷ [], tt))))),
-      ),
-      tt,
-    )
+    y = ((lfts x, shares x, tt, refs x, vals x), tt)
 
     abbrev Post : Val → SProp 𝓤
     Post = CallC .post y
@@ -250,8 +244,4 @@ call-spec 𝓤 H 𝓜 𝓖 𝓡 =
       clear = cited 𝓤 H _ 𝓜 𝓡 code.env clear-def.name clear-def.routine code.calls-result·table·clear-links (clear-thm.met 𝓤 H 𝓜 𝓖 𝓡);
       words = cited 𝓤 H _ 𝓜 𝓡 code.env words-def.name words-def.routine code.calls-memory·clear-words (words-thm.met 𝓤 H 𝓜 𝓖 𝓡);
     })
-    (record { lft = κs .0; share = qs .0; ref = a .0; fits = are .0 .0 .1 .0 })
-    (record { lft = κs .1 .0; share = qs .1 .0; ref = a .1 .0; fits = are .1 .0 .0 .1 .0 })
-    (record { lft = κs .1 .1 .0; share = qs .1 .1 .0; ref = a .1 .1 .0; fits = are .1 .1 .0 .0 .1 .0 })
-    (record { lft = κs .1 .1 .1 .0; share = qs .1 .1 .1 .0; ref = a .1 .1 .1 .0; fits = are .1 .1 .1 .0 .0 .1 .0 })
-    (record { lft = κs .1 .1 .1 .1 .0; share = qs .1 .1 .1 .1 .0; ref = a .1 .1 .1 .1 .0; fits = are .1 .1 .1 .1 .0 .0 .1 .0 }))
+    (areas-of κs qs a are))

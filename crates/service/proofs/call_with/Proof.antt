@@ -40,6 +40,7 @@ use Rattle.rules.proofs.Link as L
 use Rattle.rules.proofs.Link.Laws as L′
 use Rattle.network.proofs.call.Symbol as call-def
 use Rattle.network.proofs.call.Met as call-thm
+use Rattle.network.proofs.Areas.{Areas}
 use Rattle.service.specs.declared.Owned.{Owned}
 use Rattle.service.proofs.Owned as Own
 use Rattle.service.proofs.Owned.Laws as Own′
@@ -102,6 +103,10 @@ module _ {M : Type 1} (𝓤 : URA M) (H : Heap 𝓤) (A : Atoms 𝓤) (W : Given
     abbrev Post : Val → SProp 𝓤
     Post = WithC .post y
 
+    -- The four with a table that is lent.
+    abbrev passed : Passed L.the-row → Areas
+    passed links = record { job = job; result = result; states = states; distances = distances; links = links }
+
     abbrev Leaves : Type 0
     Leaves = Left (entry job) (entry result) (entry states) (entry distances) table
 
@@ -160,7 +165,7 @@ module _ {M : Type 1} (𝓤 : URA M) (H : Heap 𝓤) (A : Atoms 𝓤) (W : Given
           move ! (11 ∷ 0 ∷ []) $ lends-whole ! tt L.the-row tt 8128 b (lit< tt, lit< tt) table fits v (λ ν δ.
           -- [the table; it lent; job; result; states; distances; the locals but 6]
           move ! (2 ∷ 3 ∷ 4 ∷ 5 ∷ 0 ∷ []) $
-          calls-call job result states distances (on-whole L.the-row 8128 b table fits ν δ) W mem run (fmOf 𝓤 H (W .laws) 𝓣) known !
+          calls-call (passed (on-whole L.the-row 8128 b table fits ν δ)) W mem run (fmOf 𝓤 H (W .laws) 𝓣) known !
           (whole-arg ! 3 refl (whole-arg ! 10 refl (whole-arg ! 12 refl (whole-arg ! 14 refl (whole-arg ! 16 refl (no-more !)))))) (λ w z is.
           -- [the job's token; result; states; distances; the table; it lent; the locals but 6]
           land ! (from ! (stop !)) (init ! 12 refl (LE.lawful Ans.the-type Ans′.the-laws 𝓤 H A W tt .typed (z .answer) _ is .0)) $
