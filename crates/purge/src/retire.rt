@@ -66,7 +66,7 @@ fn to_the_end(states: &mut [u8], made: usize, i: usize)
     requires { ⌜ (i < made) × (made ≤ mostTypes) × (rowSize * made ≤ length (now states)) ⌝ }
     ensures { λ _. ⌜ now (states .exit) ≡ placed (now (states .entry)) (rowSize * i) (rowsFrom (now (states .entry)) (i + 1) made ++ storedAt (now (states .entry)) i) ⌝ }
 {
-    let end = ROW * made - 64;
+    let end = ROW * made - ROW;
     let row = row_at(states, i);
     let mut c = ROW * i;
     while c < end {

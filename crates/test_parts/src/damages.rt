@@ -53,7 +53,7 @@ fn largest(job: &[u8], what: usize) -> usize {
 }
 
 // The part at every value, from 0 to the largest.
-pub(crate) fn sweep(job: &mut [u8], what: usize, at: usize) {
+pub(crate) fn damage_all(job: &mut [u8], what: usize, at: usize) {
     put(b"\n");
     let last = largest(job, what);
     let mut told = changed(job, what, at, 0);

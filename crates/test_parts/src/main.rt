@@ -4,7 +4,7 @@ mod damages;
 mod purges;
 mod show;
 
-use crate::damages::sweep;
+use crate::damages::damage_all;
 use crate::purges::purged;
 use crate::show::put;
 use memory::word_at;
@@ -33,7 +33,7 @@ fn question() -> bool {
     let what = word_at(&head, 0);
     let of = word_at(&head, 2);
     if what < 4 {
-        sweep(&mut job[0..n], what, of);
+        damage_all(&mut job[0..n], what, of);
     } else {
         purged(&job[0..n], of, what == 4);
     }

@@ -53,7 +53,7 @@ fn put_origin(i: usize, types: usize, kind: Kind) {
 }
 
 // The current types, and the retired rows behind them.
-fn put_types(states: &[u8], m: usize, held: Held)
+fn show_types(states: &[u8], m: usize, held: Held)
     requires { ⌜ (length (now states) ≡ stateArea) × (m ≤ mostWidth) × (held .state .made ≤ mostTypes) ⌝ }
 {
     let state = held.state;
@@ -65,7 +65,7 @@ fn put_types(states: &[u8], m: usize, held: Held)
     }
 }
 
-fn put_link(i: usize, j: usize, length: usize) {
+fn show_link(i: usize, j: usize, length: usize) {
     put(b"L");
     put_two(i, j);
     number(b"", length);
@@ -82,14 +82,14 @@ fn put_line(area: &[u16], t: usize, i: usize, each: bool) -> usize
         if linked(area, i, j) {
             links += 1;
             if each {
-                put_link(i, j, area[128 * i + j] as usize);
+                show_link(i, j, area[128 * i + j] as usize);
             }
         }
     }
     links
 }
 
-fn put_links(area: &[u16], t: usize, each: bool)
+fn show_links(area: &[u16], t: usize, each: bool)
     requires { ⌜ (length (now area) ≡ distanceArea) × (t ≤ mostTypes) ⌝ }
 {
     let mut links = 0;
@@ -118,8 +118,8 @@ pub(crate) fn purged(job: &[u8], sampled: usize, each: bool) {
     let left = purge(&mut states, &mut area, Held { state, kinds });
     number(b" epsilon ", header.epsilon);
     put(b"\n");
-    put_types(&states, header.width, left);
-    put_links(&area, left.state.types, each);
+    show_types(&states, header.width, left);
+    show_links(&area, left.state.types, each);
     let refused = begun.answer;
     answer(tell(refused));
 }

@@ -40,8 +40,8 @@ purge-requires c κs =
     let (few, made, epsilon) = small b in
     (few, made, epsilon, omega (arith, b .begin .ensures .states-size), omega (arith, b .begin .ensures .area-size))
 
-put-types-requires : tie.Need-put-types-requires
-put-types-requires c κs =
+show-types-requires : tie.Need-show-types-requires
+show-types-requires c κs =
     let p = c .before .before .before .before .before .before .before in
     let h = header (begun p) in (
       omega (arith, p .purge .ensures .states-size, begun p .begin .ensures .states-size),
@@ -49,8 +49,8 @@ put-types-requires c κs =
       omega (arith, p .purge .ensures .made-stays, small (begun p) .1),
     )
 
-put-links-requires : tie.Need-put-links-requires
-put-links-requires c κs =
+show-links-requires : tie.Need-show-links-requires
+show-links-requires c κs =
     let p = c .before .before .before .before .before .before .before .before .before in
     let (few, made, _) = small (begun p) in (
       omega (arith, p .purge .ensures .area-size, begun p .begin .ensures .area-size),
@@ -80,9 +80,9 @@ purged-spec =
     (λ c. search needs)
     (λ c κs. search needs)
     (λ c. search needs)
-    put-types-requires
+    show-types-requires
     (λ c. search needs)
-    put-links-requires
+    show-links-requires
     (λ c κs. search needs)
     (λ c κs. search needs)
     (λ c. search needs))

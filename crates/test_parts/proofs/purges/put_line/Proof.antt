@@ -12,8 +12,8 @@ Inv-loop area t i each links₀ j₀ links j = (j ≤ t) × (i + links ≤ j)
 abbrev μ-loop : tie.MeasureT-loop
 μ-loop area t i each links₀ j₀ links j = t - j
 
-cast-put-link : tie.Need-cast-put-link Inv-loop μ-loop
-cast-put-link c = fits-16-64 (c .shared-slice-known2 .given _)
+cast-show-link : tie.Need-cast-show-link Inv-loop μ-loop
+cast-show-link c = fits-16-64 (c .shared-slice-known2 .given _)
 
 loop-again : tie.Need-loop-again Inv-loop μ-loop
 loop-again c = (omega arith, ⊎-elim (λ w. omega arith) (⊎-elim (λ w. omega arith) (λ w. omega arith)) (c .if1 .came))
@@ -31,7 +31,7 @@ put-line-spec =
     (λ c. omega arith)
     (λ c. omega arith)
     (λ c. omega arith)
-    cast-put-link
+    cast-show-link
     (λ c κs. omega arith)
     (λ c. omega arith)
     (λ c. omega arith)

@@ -4,8 +4,8 @@ use Prim.Native.Nat.{_-_, _≤_}
 use lib.ListN.{length}
 use native.Mathlib.Omega.{arith}
 use borrow.Author.Needs.{needs}
-use Rattle.test_parts.proofs.damages.sweep.Statement.{statement}
-use Rattle.test_parts.proofs.damages.sweep.Tie as tie
+use Rattle.test_parts.proofs.damages.damage_all.Statement.{statement}
+use Rattle.test_parts.proofs.damages.damage_all.Tie as tie
 
 abbrev Inv-loop : tie.InvT-loop
 Inv-loop job₀ what at last told₀ first₀ value₀ job told first value = (value ≤ last) × (length job ≡ length job₀)
@@ -13,8 +13,8 @@ Inv-loop job₀ what at last told₀ first₀ value₀ job told first value = (v
 abbrev μ-loop : tie.MeasureT-loop
 μ-loop job₀ what at last told₀ first₀ value₀ job told first value = last - value
 
-pub sweep-spec : {M : Type 1} → statement M
-sweep-spec =
+pub damage-all-spec : {M : Type 1} → statement M
+damage-all-spec =
     tie.close
     (tie.spec
     Inv-loop

@@ -2,8 +2,8 @@
 use mathlib.Core.Path.{_≡_}
 use Prim.Native.Nat.{_-_, _≤_}
 use native.Mathlib.Omega.{arith}
-use Rattle.test_parts.proofs.purges.put_types.Statement.{statement}
-use Rattle.test_parts.proofs.purges.put_types.Tie as tie
+use Rattle.test_parts.proofs.purges.show_types.Statement.{statement}
+use Rattle.test_parts.proofs.purges.show_types.Tie as tie
 
 abbrev Inv-loop : tie.InvT-loop
 Inv-loop states m state kinds i₀ t7 i-end i = (i-end ≡ state .made) × (i ≤ i-end)
@@ -11,8 +11,8 @@ Inv-loop states m state kinds i₀ t7 i-end i = (i-end ≡ state .made) × (i �
 abbrev μ-loop : tie.MeasureT-loop
 μ-loop states m state kinds i₀ t7 i-end i = i-end - i
 
-pub put-types-spec : {M : Type 1} → statement M
-put-types-spec =
+pub show-types-spec : {M : Type 1} → statement M
+show-types-spec =
     tie.close
     (tie.spec
     Inv-loop
