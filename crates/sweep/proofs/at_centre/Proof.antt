@@ -16,7 +16,7 @@ Inv-loop states area weights next mismatches₀ hints gathered₀ guesses₀ siz
 abbrev μ-loop : tie.MeasureT-loop
 μ-loop states area weights next mismatches₀ hints gathered₀ guesses₀ size n c met₀ a₀ mismatches gathered guesses met a = n - a
 
--- The function's start, what a search needs at first, and that numbers of types are small.
+-- The function's start, and what a search needs at first.
 abbrev start : tie.After-new Inv-loop μ-loop → tie.Start Inv-loop μ-loop
 start c = c .before .before .before .before .before .before .before .before .before .before
 
@@ -25,8 +25,15 @@ ready : (c : tie.After-new Inv-loop μ-loop) →
     Sweepable (s .states .now) (s .area .now) (s .weights .now) (s .next .now) (s .mismatches .now) (s .gathered .now) (s .guesses .now) (s .at .size) (c .new .result .search)
 ready c = ready-as (start c .pre .0) (c .new .ensures)
 
-small : (c : tie.In-loop Inv-loop μ-loop) → (start (c .before .before .before) .args .at .c < 128) × (c .before .loop .a < 128)
-small c = let p = start (c .before .before .before) .pre in (few (p .0) (p .1), few (p .0) (c .loop-test .taken))
+-- The call of a turn, as its last steps have it, and the turn; there numbers of types are small.
+abbrev called : tie.After-slice-known6 Inv-loop μ-loop → tie.After-with-first Inv-loop μ-loop
+called c = c .before .before .before .before .before .before
+
+abbrev turn : tie.After-slice-known6 Inv-loop μ-loop → tie.In-loop Inv-loop μ-loop
+turn c = called c .before .before .before .before
+
+small : (c : tie.After-slice-known6 Inv-loop μ-loop) → (start (turn c .before .before .before) .args .at .c < 128) × (turn c .before .loop .a < 128)
+small c = let p = start (turn c .before .before .before) .pre in (few (p .0) (p .1), few (p .0) (turn c .loop-test .taken))
 
 cast-a : tie.Need-cast-a Inv-loop μ-loop
 cast-a c = omega (arith, c .shared-slice-known6 .given (129 * start (c .before) .args .at .c))
@@ -43,48 +50,41 @@ with-first-requires c κs =
     (ready-on (ready n) (l .inv .1), start n .pre .1, h, l .inv .0 .linked h)
 
 mul-a-3 : tie.Need-mul-a-3 Inv-loop μ-loop
-mul-a-3 c = omega (arith, small (c .before .before .before .before .before .before .before .before .before .before))
+mul-a-3 c = omega (arith, small c)
 
 add-a : tie.Need-add-a Inv-loop μ-loop
-add-a c = omega (arith, small (c .before .before .before .before .before .before .before .before .before .before))
+add-a c = omega (arith, small c)
 
 add-a-2 : tie.Need-add-a-2 Inv-loop μ-loop
-add-a-2 c = omega (arith, small (c .before .before .before .before .before .before .before .before .before .before))
+add-a-2 c = omega (arith, small c)
 
 mul-a-4 : tie.Need-mul-a-4 Inv-loop μ-loop
-mul-a-4 c = omega (arith, small (c .before .before .before .before .before .before .before .before .before .before))
-
--- The call of a turn, as its last steps have it, and the turn.
-abbrev called : tie.After-shared-slice-known7 Inv-loop μ-loop → tie.After-with-first Inv-loop μ-loop
-called c = c .before .before .before .before .before .before .before
-
-abbrev turn : tie.After-shared-slice-known7 Inv-loop μ-loop → tie.In-loop Inv-loop μ-loop
-turn c = called c .before .before .before .before
+mul-a-4 c = omega (arith, small c)
 
 shared-slice-read-a-2 : tie.Need-shared-slice-read-a-2 Inv-loop μ-loop
-shared-slice-read-a-2 c = let n = turn c .before .before .before in omega (arith, small (turn c), start n .pre .0 .follows .size)
+shared-slice-read-a-2 c = let n = turn (c .before) .before .before .before in omega (arith, small (c .before), start n .pre .0 .follows .size)
 
 cast-a-2 : tie.Need-cast-a-2 Inv-loop μ-loop
 cast-a-2 c =
-    let l = turn c .before in
+    let l = turn (c .before) .before in
     omega (arith, c .shared-slice-known7 .given (129 * start (l .before .before) .args .at .c + l .loop .a + 1))
 
 loop-less : tie.Need-loop-less Inv-loop μ-loop
 loop-less c =
-    let h = turn c .loop-test .taken in
-    let p = start (turn c .before .before .before) .pre in
+    let h = turn (c .before) .loop-test .taken in
+    let p = start (turn (c .before) .before .before .before) .pre in
     walk-less h (follower-next (p .0) (p .1) h)
 
 loop-again : tie.Need-loop-again Inv-loop μ-loop
 loop-again c =
-    let l = turn c .before .loop in
-    let n = turn c .before .before .before in
+    let l = turn (c .before) .before .loop in
+    let n = turn (c .before) .before .before .before in
     let s = start n in
-    let f = follower-next (s .pre .0) (s .pre .1) (turn c .loop-test .taken) in (
+    let f = follower-next (s .pre .0) (s .pre .1) (turn (c .before) .loop-test .taken) in (
       walk-next (l .inv .0) f,
       passed-more (ready n) (l .inv .1)
           (λ made. WithFirst (s .args .weights .now) (s .args .states .now) (s .args .area .now) (s .args .at .size .types) made (s .args .at .c) (l .a) (s .args .at .size .types))
-          (called c .with-first .ensures) (λ x cost. which-first f),
+          (called (c .before) .with-first .ensures) (λ x cost. which-first f),
     )
 
 same-length : tie.Need-same-length Inv-loop μ-loop
