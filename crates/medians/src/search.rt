@@ -18,7 +18,7 @@ use rules::ROW;
 use triplets::Triplet;
 
 // No connection cost is above 128,000.
-const ABOVE_ALL_COSTS: usize = 128001;
+pub const ABOVE_ALL_COSTS: usize = 128001;
 
 // A search: only costs below this matter; so many rows were made, and so many candidates gathered since. When candidates are gathered
 // and no room is left for one more, the search is full and looks for nothing more.

@@ -1,6 +1,6 @@
 -- The rows that a round adds.
 use mathlib.Core.Path.{_≡_}
-use mathlib.Core.Logic.{_↔_}
+use mathlib.Core.Logic.{_≢_, _↔_}
 use mathlib.Core.Bool.{true, false}
 use mathlib.Core.List.{List}
 use Prim.Native.Nat.{ℕ, _+_, _*_, _≤_, _<_}
@@ -13,7 +13,10 @@ use Rattle.rules.proofs.Rounds.{AscendingRows}
 use Rattle.types.specs.State.{laid}
 use Rattle.distances.specs.Area.{Weighed}
 use Rattle.triplets.specs.Followers.{Followers}
+use Rattle.medians.specs.Search.{aboveAllCosts}
 use Rattle.sweep.specs.Candidate.{Candidate, Faithful}
+use Rattle.sweep.specs.Floors.{Floors}
+use Rattle.sweep.specs.declared.Survey.{Survey}
 use Rattle.round.specs.declared.candidates.Added.{Added}
 
 -- So many rows; and no row, because there is no room.
@@ -24,14 +27,21 @@ abbrev pub NoneFits : Added → Type 0
 NoneFits r = (r .rows ≡ replicate stateArea 0) × (r .count ≡ 0) × (r .full ≡ true)
 
 -- What it takes to choose a round's rows: n types are current, and who is linked with them is known.
-pub record Choosing (states : Bytes) (area ws next : List ℕ) (n made e : ℕ) : Type 0 where
+pub record Choosing (states : Bytes) (area ws next : List ℕ) (n made : ℕ) : Type 0 where
   pub weighed : Weighed ws
   pub follows : Followers area n next
   pub current : n ≤ made
   pub few : made ≤ mostTypes
-  pub small : e ≤ 65535
   pub lie : rowSize * made ≤ length states
   pub cells : distanceArea ≤ length area
+
+-- What a search for lambda comes to: the cost of a candidate, than which none costs less; or more than any cost. And there are floors.
+pub record LambdaSought (ws : List ℕ) (states : Bytes) (area : List ℕ) (v : Survey) : Type 0 where
+  pub no-higher : v .search .below ≤ aboveAllCosts
+  pub met : v .search .below ≢ aboveAllCosts → (x : Bytes) × Candidate ws states area (v .size .types) (v .search .made) x (v .search .below)
+  pub least : Faithful ws states area (v .size .types) → (x : Bytes) (cost : ℕ) →
+      Candidate ws states area (v .size .types) (v .search .made) x cost → v .search .below ≤ cost
+  pub floors : Floors ws states area (v .size .types) (v .search .made) (v .floors)
 
 -- A candidate that the round adds: one of its costs is at most the cost of any candidate and epsilon.
 pub record InWindow (ws : List ℕ) (states : Bytes) (area : List ℕ) (n made e : ℕ) (x : Bytes) : Type 0 where

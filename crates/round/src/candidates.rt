@@ -2,13 +2,19 @@
 // the round adds. It reads the state area and the distance area.
 
 ghost use mathlib.Core.Path.{_≡_};
-ghost use Rattle.sweep.specs.Candidate.{Remembered};
-ghost use Rattle.round.specs.Fresh.{withRows, NoneFits, Choosing, Fresh};
+ghost use Prim.Native.Nat.{_≤_};
+ghost use lib.ListN.{length};
+ghost use Rattle.medians.specs.Guesses.{guessesSize};
+ghost use Rattle.sweep.specs.Candidate.{Remembered, TablesKept};
+ghost use Rattle.round.specs.Fresh.{withRows, NoneFits, Choosing, LambdaSought, Fresh};
 use crate::ascending::ascending;
 use medians::guesses::guess_all;
+use medians::search::ABOVE_ALL_COSTS;
 use medians::search::Search;
 use rules::MOST_TYPES;
 use rules::STATE_AREA;
+use sweep::Size;
+use sweep::Survey;
 use sweep::sweep;
 
 // The rows that a round adds, ascending, with zeros behind them; or no room for them.
@@ -41,8 +47,86 @@ fn with_rows(rows: [u8; STATE_AREA], count: usize) -> Added
     }
 }
 
-// All candidates of a cost of at most lambda and epsilon, each once, ascending by their bytes; n types are current, and who is linked
-// with them is known. Of the floors nothing is known at first.
+// The first sweep: it comes to lambda, if there is a candidate. Of the floors nothing is known at first.
+fn find_lambda(
+    states: &[u8],
+    area: &[u16],
+    weights: &[u16],
+    next: &[u16],
+    mismatches: &mut [u64],
+    hints: &[u64],
+    guesses: &mut [u16],
+    size: Size,
+    made: usize,
+) -> Survey
+    requires { ⌜ Choosing (now states) (now area) (now weights) (now next) (size .types) made × Remembered (now states) (now mismatches) (size .width) made
+        × (length (now guesses) ≡ guessesSize) ⌝ }
+    ensures { λ r. ⌜ (r .size ≡ size) × (r .search .made ≡ made) × LambdaSought (now (weights .entry)) (now (states .entry)) (now (area .entry)) r
+        × TablesKept (now (states .entry)) (size .width) made (now (mismatches .entry)) (now (mismatches .exit)) (now (guesses .exit)) ⌝ }
+{
+    let search = Search::for_lambda(made);
+    let floors = [0usize; MOST_TYPES];
+    let first = Survey {
+        size,
+        search,
+        floors,
+    };
+    let mut rows = [0u8; STATE_AREA];
+    sweep(
+        states,
+        area,
+        weights,
+        next,
+        mismatches,
+        hints,
+        &mut rows,
+        guesses,
+        first,
+    )
+}
+
+// The second sweep: all candidates of a cost of at most lambda and epsilon.
+fn gather_window(
+    states: &[u8],
+    area: &[u16],
+    weights: &[u16],
+    next: &[u16],
+    mismatches: &mut [u64],
+    hints: &[u64],
+    guesses: &mut [u16],
+    least: Survey,
+    epsilon: usize,
+) -> Added
+    requires { ⌜ Choosing (now states) (now area) (now weights) (now next) (least .size .types) (least .search .made) × (epsilon ≤ 65535)
+        × Remembered (now states) (now mismatches) (least .size .width) (least .search .made) × (length (now guesses) ≡ guessesSize) × LambdaSought (now weights) (now states) (now area) least ⌝ }
+    ensures { λ r. ⌜ Fresh (now (weights .entry)) (now (states .entry)) (now (area .entry)) (least .size .types) (least .search .made) epsilon r ⌝ }
+{
+    let mut rows = [0u8; STATE_AREA];
+    let lambda = least.search.below;
+    if lambda == ABOVE_ALL_COSTS {
+        return with_rows(rows, 0);
+    }
+    let window = Search::for_all(least.search.made, lambda + epsilon + 1);
+    let all = sweep(
+        states,
+        area,
+        weights,
+        next,
+        mismatches,
+        hints,
+        &mut rows,
+        guesses,
+        least.again(window),
+    );
+    if all.search.full {
+        return none_fits();
+    }
+    ascending(&mut rows, all.search.count);
+    with_rows(rows, all.search.count)
+}
+
+// All candidates of a cost of at most lambda and epsilon, each once, ascending by their bytes; who is linked with the current types is
+// known.
 pub fn choose(
     states: &[u8],
     area: &[u16],
@@ -50,53 +134,35 @@ pub fn choose(
     next: &[u16],
     mismatches: &mut [u64],
     hints: &[u64],
-    m: usize,
-    n: usize,
+    size: Size,
     made: usize,
     epsilon: usize,
 ) -> Added
-    requires { ⌜ Choosing (now states) (now area) (now weights) (now next) n made epsilon × Remembered (now states) (now mismatches) m made ⌝ }
-    ensures { λ r. ⌜ Fresh (now (weights .entry)) (now (states .entry)) (now (area .entry)) n made epsilon r ⌝ }
+    requires { ⌜ Choosing (now states) (now area) (now weights) (now next) (size .types) made × (epsilon ≤ 65535)
+        × Remembered (now states) (now mismatches) (size .width) made ⌝ }
+    ensures { λ r. ⌜ Fresh (now (weights .entry)) (now (states .entry)) (now (area .entry)) (size .types) made epsilon r ⌝ }
 {
     let mut guesses = guess_all(states, made);
-    let mut rows = [0u8; STATE_AREA];
-    let mut floors = [0usize; MOST_TYPES];
-    let any = Search::for_lambda(made);
-    let least = sweep(
+    let least = find_lambda(
         states,
         area,
         weights,
         next,
-        &mut floors,
         mismatches,
         hints,
-        &mut rows,
         &mut guesses,
-        m,
-        n,
-        any,
+        size,
+        made,
     );
-    if least.below == any.below {
-        return with_rows(rows, 0);
-    }
-    let window = Search::for_all(made, least.below + epsilon + 1);
-    let all = sweep(
+    gather_window(
         states,
         area,
         weights,
         next,
-        &mut floors,
         mismatches,
         hints,
-        &mut rows,
         &mut guesses,
-        m,
-        n,
-        window,
-    );
-    if all.full {
-        return none_fits();
-    }
-    ascending(&mut rows, all.count);
-    with_rows(rows, all.count)
+        least,
+        epsilon,
+    )
 }

@@ -11,6 +11,7 @@ use crate::candidates::choose;
 use links::link_count;
 use rules::DISTANCE_AREA;
 use rules::MOST_WIDTH;
+use sweep::Size;
 use triplets::FOLLOWERS;
 use triplets::followers;
 use triplets::hints::HINTS;
@@ -25,13 +26,14 @@ fn choose_with_mismatches(
     made: usize,
     epsilon: usize,
 ) -> Added
-    requires { ⌜ Choosing (now states) (now area) (now weights) (now next) n made epsilon ⌝ }
+    requires { ⌜ Choosing (now states) (now area) (now weights) (now next) n made × (epsilon ≤ 65535) ⌝ }
     ensures { λ r. ⌜ Fresh (now (weights .entry)) (now (states .entry)) (now (area .entry)) n made epsilon r ⌝ }
 {
     let mut mismatches = [triplets::mismatches::UNKNOWN; DISTANCE_AREA];
     let mut hints = [1u64; HINTS];
     let m = triplets::mismatches::width_in_use(states, made);
     triplets::hints::hints(states, &mut hints, m, made);
+    let size = Size { width: m, types: n };
     choose(
         states,
         area,
@@ -39,8 +41,7 @@ fn choose_with_mismatches(
         next,
         &mut mismatches,
         &hints,
-        m,
-        n,
+        size,
         made,
         epsilon,
     )
@@ -56,11 +57,15 @@ fn choose_without_mismatches(
     made: usize,
     epsilon: usize,
 ) -> Added
-    requires { ⌜ Choosing (now states) (now area) (now weights) (now next) n made epsilon ⌝ }
+    requires { ⌜ Choosing (now states) (now area) (now weights) (now next) n made × (epsilon ≤ 65535) ⌝ }
     ensures { λ r. ⌜ Fresh (now (weights .entry)) (now (states .entry)) (now (area .entry)) n made epsilon r ⌝ }
 {
     let mut mismatches = [triplets::mismatches::UNKNOWN; 1];
     let hints = [1u64; 1];
+    let size = Size {
+        width: MOST_WIDTH,
+        types: n,
+    };
     choose(
         states,
         area,
@@ -68,8 +73,7 @@ fn choose_without_mismatches(
         next,
         &mut mismatches,
         &hints,
-        MOST_WIDTH,
-        n,
+        size,
         made,
         epsilon,
     )

@@ -4,22 +4,23 @@ use mathlib.Core.Path.{_≡_, refl, sym, _∙_}
 use mathlib.Core.Logic.{_⊎_, inl, inr, ⊎-elim}
 use mathlib.Core.Bool.{true, false, false≢true}
 use mathlib.Core.List.{List}
-use Prim.Native.Nat.{ℕ, _+_, _*_, _≤_, _<_, min}
+use Prim.Native.Nat.{ℕ, _+_, _*_, _-_, _≤_, _<_, min}
 use native.Mathlib.Decide.{decLt}
 use native.Mathlib.Omega.{arith}
 use lib.ListN.{length, getD}
 use Rattle.rules.specs.Job.{Bytes}
 use Rattle.links.specs.Marks.{marked}
-use Rattle.triplets.specs.Followers.{Follower, Followers}
+use Rattle.triplets.specs.Followers.{Follower}
 use Rattle.triplets.specs.Triplet.{inOrder}
 use Rattle.triplets.specs.declared.Triplet.{Triplet}
-use Rattle.triplets.specs.Mismatches.{Cached}
 use Rattle.medians.specs.declared.search.Search.{Search}
 use Rattle.medians.specs.Search.{Inside}
 use Rattle.medians.specs.Swept.{Gives, Swept}
 use Rattle.medians.proofs.search.Sweeping.{Rows, swept-none, swept-more, swept-as, swept-at}
-use Rattle.sweep.specs.Candidate.{IsTriplet, Candidate, Faithful, WithFirst, AtCentre, Everywhere, Sweepable, TablesKept}
-use Rattle.sweep.specs.Floors.{Outlook, Floored, Floors}
+use Rattle.sweep.specs.declared.Size.{Size}
+use Rattle.sweep.specs.declared.Met.{Met}
+use Rattle.sweep.specs.Candidate.{IsTriplet, Candidate, Faithful, WithFirst, AtCentre, Everywhere, Remembered, Sweepable, TablesKept}
+use Rattle.sweep.specs.Floors.{met, Outlook, Passed, Floors}
 use Rattle.sweep.proofs.Dropped.{no-less}
 use Rattle.sweep.proofs.Floors.{floored-none, floored-more}
 
@@ -29,20 +30,19 @@ pub record Walk (area : List ℕ) (n c start at : ℕ) : Type 0 where
   pub within : at ≤ n
   pub linked : at < n → marked area c at ≡ true
 
--- The first type linked with c, and the next one, where they stand in the table.
-module _ {area next : List ℕ} {n : ℕ} (follows : Followers area n next) (c : ℕ) (h : c < n) where
-  pub follower-first : Follower area n c 0 (getD next (129 * c) 0)
-  follower-first = let e : 129 * c ≡ 129 * c + 0 = omega arith in rw e (follows .each c 0 h (omega arith))
-
-  pub follower-next : (i : ℕ) → i < n → Follower area n c (i + 1) (getD next (129 * c + i + 1) 0)
-  follower-next i l = let e : 129 * c + i + 1 ≡ 129 * c + (i + 1) = omega arith in rw e (follows .each c (i + 1) h (omega arith))
-
 module _ {area : List ℕ} {n c : ℕ} where
   pub walk-first : {start at : ℕ} → Follower area n c start at → Walk area n c start at
   walk-first f = record { on = f .from; within = f .within; linked = f .linked }
 
   pub walk-next : {start at next : ℕ} → Walk area n c start at → Follower area n c (at + 1) next → Walk area n c start next
   walk-next w f = record { on = omega (arith, w .on, f .from); within = f .within; linked = f .linked }
+
+  -- It comes nearer to its end, and there all that is asked for up to n is asked for.
+  pub walk-less : {at next : ℕ} → at < n → Follower area n c (at + 1) next → n - next < n - at
+  walk-less h f = omega (arith, f .from, f .within)
+
+  pub walk-done : {start at : ℕ} → Walk area n c start at → n ≤ at → at ≡ n
+  walk-done w h = omega (arith, w .within)
 
   -- A type that is linked with c is none of those passed over.
   not-passed : {i at : ℕ} → Follower area n c i at → (k : ℕ) → marked area c k ≡ true → k < at → k < i
@@ -64,14 +64,14 @@ module _ {ws : List ℕ} {states : Bytes} {area : List ℕ} {n made c : ℕ} {x 
     | no other ↦ let e : k .c ≡ c = omega (arith, k .within) in inr (rw e at (k .rest))
   ]
 
-  which-first : {a to : ℕ} → Follower area n c (a + 1) to → AtCentre ws states area n made c to x cost →
+  pub which-first : {a to : ℕ} → Follower area n c (a + 1) to → AtCentre ws states area n made c to x cost →
       AtCentre ws states area n made c a x cost ⊎ WithFirst ws states area n made c a n x cost
   which-first {a} f k = elim (decLt (k .a) a) [
     | yes h ↦ inl (record { a = k .a; within = h; linked = k .linked; rest = k .rest })
     | no other ↦ let e : k .a ≡ a = omega (arith, not-passed f (k .a) (k .linked) (k .within)) in inr (rw e at (k .rest))
   ]
 
-  which-second : {a b to : ℕ} → Follower area n c (b + 1) to → WithFirst ws states area n made c a to x cost →
+  pub which-second : {a b to : ℕ} → Follower area n c (b + 1) to → WithFirst ws states area n made c a to x cost →
       WithFirst ws states area n made c a b x cost ⊎ Here ws states area n made c a b x cost
   which-second {b} f k = elim (decLt (k .b) b) [
     | yes h ↦ inl (record {
@@ -93,27 +93,14 @@ pub kept-then : {states : Bytes} {m made made′ : ℕ} {mismatches₀ words₁ 
     TablesKept states m made mismatches₀ words₁ guesses₁ → TablesKept states m made′ words₁ words₂ guesses₂ → TablesKept states m made mismatches₀ words₂ guesses₂
 kept-then e a b = record { remembered = rw e at (b .remembered); mismatches-size = b .mismatches-size ∙ a .mismatches-size; guesses-size = b .guesses-size }
 
--- More mismatches are known, or the guesses changed.
-pub kept-mismatches : {states : Bytes} {m made made′ : ℕ} {mismatches₀ words₁ words₂ guesses : List ℕ} → made′ ≡ made →
-    TablesKept states m made mismatches₀ words₁ guesses → Cached states m made′ words₂ → length words₂ ≡ length words₁ → TablesKept states m made mismatches₀ words₂ guesses
-kept-mismatches e a cached size = record {
-  remembered = record { narrow = a .remembered .narrow; cached = rw e at cached };
-  mismatches-size = size ∙ a .mismatches-size;
-  guesses-size = a .guesses-size;
-}
-
-pub kept-guesses : {states : Bytes} {m made : ℕ} {mismatches₀ mismatches guesses guesses′ : List ℕ} → TablesKept states m made mismatches₀ mismatches guesses →
-    length guesses′ ≡ 4096 → TablesKept states m made mismatches₀ mismatches guesses′
-kept-guesses a size = record { remembered = a .remembered; mismatches-size = a .mismatches-size; guesses-size = size }
-
-module _ {states : Bytes} {area ws next mismatches₀ : List ℕ} {gathered₀ guesses₀ : Bytes} {m n : ℕ} {s₀ : Search}
-    (ready : Sweepable states area ws next mismatches₀ gathered₀ guesses₀ m n s₀) where
-  pub kept-none : TablesKept states m (s₀ .made) mismatches₀ mismatches₀ guesses₀
+module _ {states : Bytes} {area ws next mismatches₀ : List ℕ} {gathered₀ guesses₀ : Bytes} {size : Size} {s₀ : Search}
+    (ready : Sweepable states area ws next mismatches₀ gathered₀ guesses₀ size s₀) where
+  pub kept-none : TablesKept states (size .width) (s₀ .made) mismatches₀ mismatches₀ guesses₀
   kept-none = record { remembered = ready .remembered; mismatches-size = refl; guesses-size = ready .guesses-size }
 
   -- What a search needs, it has after a sweep too.
   pub still-ready : {A G : Rows} {mismatches : List ℕ} {gathered guesses : Bytes} {s : Search} → Swept A G gathered₀ s₀ gathered s →
-      TablesKept states m (s₀ .made) mismatches₀ mismatches guesses → Sweepable states area ws next mismatches gathered guesses m n s
+      TablesKept states (size .width) (s₀ .made) mismatches₀ mismatches guesses → Sweepable states area ws next mismatches gathered guesses size s
   still-ready a kept = record {
     weighed = ready .weighed;
     follows = ready .follows;
@@ -127,8 +114,23 @@ module _ {states : Bytes} {area ws next mismatches₀ : List ℕ} {gathered₀ g
     low = omega (arith, a .no-higher, ready .low);
   }
 
+  pub ready-as : {now : Met} {low : ℕ} → now ≡ met s₀ low → Sweepable states area ws next mismatches₀ gathered₀ guesses₀ size (now .search)
+  ready-as e = rw e ready
+
+  -- Numbers of types are small.
+  pub few : {c : ℕ} → c < size .types → c < 128
+  few h = omega (arith, ready .current, ready .room)
+
+  -- The first type linked with c, and the next one behind i, where they stand in the table.
+  module _ {c : ℕ} (h : c < size .types) where
+    pub follower-first : Follower area (size .types) c 0 (getD next (129 * c) 0)
+    follower-first = let e : 129 * c ≡ 129 * c + 0 = omega arith in rw e (ready .follows .each c 0 h (omega arith))
+
+    pub follower-next : {i : ℕ} → i < size .types → Follower area (size .types) c (i + 1) (getD next (129 * c + i + 1) 0)
+    follower-next {i} l = let e : 129 * c + i + 1 ≡ 129 * c + (i + 1) = omega arith in rw e (ready .follows .each c (i + 1) h (omega arith))
+
   -- The types of a triplet are among those made.
-  pub ready-inside : {t : Triplet} → IsTriplet area n t → Inside states s₀ t
+  pub ready-inside : {t : Triplet} → IsTriplet area (size .types) t → Inside states s₀ t
   ready-inside i = record {
     u-made = omega (arith, ready .current, i .rising, i .current);
     v-made = omega (arith, ready .current, i .rising, i .current);
@@ -137,9 +139,21 @@ module _ {states : Bytes} {area ws next mismatches₀ : List ℕ} {gathered₀ g
     lie = ready .lie;
   }
 
+  -- Nothing that a triplet gives costs less than its outlook.
+  here-no-less : (c a b : ℕ) {t : Triplet} {r : ℕ} → t ≡ inOrder c a b → IsTriplet area (size .types) t → Outlook states area (s₀ .made) t r →
+      (x : Bytes) (cost : ℕ) → Here ws states area (size .types) (s₀ .made) c a b x cost → r ≤ cost
+  here-no-less c a b {t} is triplet outlook x cost k =
+      let gives : Gives ws states (s₀ .made) t x cost = rw is (k .2) in
+      ⊎-elim
+      (λ e. omega (arith, no-less (ready .weighed) (ready .lie) (triplet .rising) (ready-inside triplet .w-made) (k .0) (triplet .current) gives))
+      (λ settled.
+      let (i, h, e) = settled .0 (gives .median .number) (gives .median .below-three) in
+      absurd (gives .unmade i h (e ∙ sym (gives .median .row-is))))
+      outlook
+
   -- Candidates, where this many rows are made.
   abbrev Given : ℕ → Rows
-  Given made = Candidate ws states area n made
+  Given made = Candidate ws states area (size .types) made
 
   -- Nothing is asked for yet.
   none-asked : {A : Rows} → ((x : Bytes) (cost : ℕ) → A x cost → ⊥) → Swept A (Given (s₀ .made)) gathered₀ s₀ gathered₀ s₀
@@ -152,109 +166,90 @@ module _ {states : Bytes} {area ws next mismatches₀ : List ℕ} {gathered₀ g
   one-more B a b which = swept-more a (swept-at B Given (a .made-stays) b) which
 
   -- The sweep of all types.
-  pub everywhere-none : Swept (Everywhere ws states area n (s₀ .made) 0) (Given (s₀ .made)) gathered₀ s₀ gathered₀ s₀
+  pub everywhere-none : Swept (Everywhere ws states area (size .types) (s₀ .made) 0) (Given (s₀ .made)) gathered₀ s₀ gathered₀ s₀
   everywhere-none = none-asked (λ x cost k. omega (arith, k .within))
 
   pub everywhere-more : (c : ℕ) {gathered found′ : Bytes} {s s′ : Search} →
-      Swept (Everywhere ws states area n (s₀ .made) c) (Given (s₀ .made)) gathered₀ s₀ gathered s →
-      Swept (AtCentre ws states area n (s .made) c n) (Given (s .made)) gathered s found′ s′ →
-      Swept (Everywhere ws states area n (s₀ .made) (c + 1)) (Given (s₀ .made)) gathered₀ s₀ found′ s′
-  everywhere-more c a b = one-more (λ made. AtCentre ws states area n made c n) a b (λ x cost. which-centre)
+      Swept (Everywhere ws states area (size .types) (s₀ .made) c) (Given (s₀ .made)) gathered₀ s₀ gathered s →
+      Swept (AtCentre ws states area (size .types) (s .made) c (size .types)) (Given (s .made)) gathered s found′ s′ →
+      Swept (Everywhere ws states area (size .types) (s₀ .made) (c + 1)) (Given (s₀ .made)) gathered₀ s₀ found′ s′
+  everywhere-more c a b = one-more (λ made. AtCentre ws states area (size .types) made c (size .types)) a b (λ x cost. which-centre)
 
   -- A type is passed over where its floor does not matter.
-  pub everywhere-passed : (c : ℕ) {gathered : Bytes} {s : Search} {floors : List ℕ} → c < n → Floors ws states area n (s₀ .made) floors →
-      s .below ≤ getD floors c 0 → Swept (Everywhere ws states area n (s₀ .made) c) (Given (s₀ .made)) gathered₀ s₀ gathered s →
-      Swept (Everywhere ws states area n (s₀ .made) (c + 1)) (Given (s₀ .made)) gathered₀ s₀ gathered s
+  pub everywhere-passed : (c : ℕ) {gathered : Bytes} {s : Search} {floors : List ℕ} → c < size .types →
+      Floors ws states area (size .types) (s₀ .made) floors → s .below ≤ getD floors c 0 →
+      Swept (Everywhere ws states area (size .types) (s₀ .made) c) (Given (s₀ .made)) gathered₀ s₀ gathered s →
+      Swept (Everywhere ws states area (size .types) (s₀ .made) (c + 1)) (Given (s₀ .made)) gathered₀ s₀ gathered s
   everywhere-passed c h floors high a =
       everywhere-more c a (swept-none (λ x cost k. inl (omega (arith, floors .each c h x cost (rw (a .made-stays) at k)))) (a .room))
 
-  -- The walk at a type c.
-  module _ (c : ℕ) where
-    none-centre : {at : ℕ} → Follower area n c 0 at → (x : Bytes) (cost : ℕ) → AtCentre ws states area n (s₀ .made) c at x cost → ⊥
-    none-centre f x cost k = omega (arith, not-passed f (k .a) (k .linked) (k .within))
+-- Triplets are passed, one after the other.
+module _ {states : Bytes} {area ws next mismatches₀ : List ℕ} {gathered₀ guesses₀ : Bytes} {size : Size} {met₀ : Met}
+    (ready : Sweepable states area ws next mismatches₀ gathered₀ guesses₀ size (met₀ .search)) where
+  -- Nothing is asked for yet.
+  pub passed-none : {A : Rows} → ((x : Bytes) (cost : ℕ) → A x cost → ⊥) →
+      Passed ws states area size met₀ A mismatches₀ gathered₀ mismatches₀ gathered₀ guesses₀ met₀
+  passed-none none = record { kept = kept-none ready; swept = none-asked ready none; floored = floored-none none }
 
-    pub centre-none : {at : ℕ} → Follower area n c 0 at →
-        Swept (AtCentre ws states area n (s₀ .made) c at) (Given (s₀ .made)) gathered₀ s₀ gathered₀ s₀
-    centre-none f = none-asked (none-centre f)
+  module _ {A : Rows} {mismatches : List ℕ} {gathered guesses : Bytes} {met : Met}
+      (so-far : Passed ws states area size met₀ A mismatches₀ gathered₀ mismatches gathered guesses met) where
+    -- What a search needs, it has still.
+    pub ready-on : Sweepable states area ws next mismatches gathered guesses size (met .search)
+    ready-on = still-ready ready (so-far .swept) (so-far .kept)
 
-    pub centre-open : {at low : ℕ} → Follower area n c 0 at → Floored (AtCentre ws states area n (s₀ .made) c at) low low
-    centre-open f = floored-none (none-centre f)
+    -- More is passed, and what is asked for was asked for before, or is now.
+    pub passed-more : {C : Rows} (B : ℕ → Rows) {mismatches′ : List ℕ} {gathered′ guesses′ : Bytes} {met′ : Met} →
+        Passed ws states area size met (B (met .search .made)) mismatches gathered mismatches′ gathered′ guesses′ met′ →
+        ((x : Bytes) (cost : ℕ) → C x cost → A x cost ⊎ B (met₀ .search .made) x cost) →
+        Passed ws states area size met₀ C mismatches₀ gathered₀ mismatches′ gathered′ guesses′ met′
+    passed-more B more which =
+        let stays = so-far .swept .made-stays in
+        record {
+          kept = kept-then stays (so-far .kept) (more .kept);
+          swept = one-more ready B (so-far .swept) (more .swept) which;
+          floored = floored-more (so-far .floored) (rw stays at (more .floored)) which;
+        }
 
-    pub centre-more : (a : ℕ) {to : ℕ} {gathered found′ : Bytes} {s s′ : Search} → Follower area n c (a + 1) to →
-        Swept (AtCentre ws states area n (s₀ .made) c a) (Given (s₀ .made)) gathered₀ s₀ gathered s →
-        Swept (WithFirst ws states area n (s .made) c a n) (Given (s .made)) gathered s found′ s′ →
-        Swept (AtCentre ws states area n (s₀ .made) c to) (Given (s₀ .made)) gathered₀ s₀ found′ s′
-    centre-more a f p q = one-more (λ made. WithFirst ws states area n made c a n) p q (λ x cost. which-first f)
+  -- A walk at a type c begins: nothing is asked for before the first type linked with c, or before the first one behind a.
+  module _ {c : ℕ} (h : c < size .types) where
+    pub centre-none : Passed ws states area size met₀ (AtCentre ws states area (size .types) (met₀ .search .made) c (getD next (129 * c) 0))
+        mismatches₀ gathered₀ mismatches₀ gathered₀ guesses₀ met₀
+    centre-none = passed-none (λ x cost k. omega (arith, not-passed (follower-first ready h) (k .a) (k .linked) (k .within)))
 
-    pub centre-lowered : (a : ℕ) {to high low lower : ℕ} {made : ℕ} → made ≡ s₀ .made → Follower area n c (a + 1) to →
-        Floored (AtCentre ws states area n (s₀ .made) c a) high low → Floored (WithFirst ws states area n made c a n) low lower →
-        Floored (AtCentre ws states area n (s₀ .made) c to) high lower
-    centre-lowered a e f p q = floored-more p (rw e at q) (λ x cost. which-first f)
+    pub first-none : {a : ℕ} → a < size .types → Passed ws states area size met₀
+        (WithFirst ws states area (size .types) (met₀ .search .made) c a (getD next (129 * c + a + 1) 0)) mismatches₀ gathered₀ mismatches₀ gathered₀ guesses₀ met₀
+    first-none l = passed-none (λ x cost k. omega (arith, k .higher, not-passed (follower-next ready h l) (k .b) (k .linked) (k .within)))
 
-    -- The walk with a type a.
-    module _ (a : ℕ) where
-      none-first : {at : ℕ} → Follower area n c (a + 1) at → (x : Bytes) (cost : ℕ) → WithFirst ws states area n (s₀ .made) c a at x cost → ⊥
-      none-first f x cost k = omega (arith, k .higher, not-passed f (k .b) (k .linked) (k .within))
+  -- What is met at c, a and b: the triplet is met at type a instead, or it is asked what it costs at least.
+  module _ (c a b : ℕ) where
+    pub here-skipped : a ≤ c → marked area a b ≡ true →
+        Passed ws states area size met₀ (Here ws states area (size .types) (met₀ .search .made) c a b) mismatches₀ gathered₀ mismatches₀ gathered₀ guesses₀ met₀
+    here-skipped h e = passed-none (λ x cost k. ⊎-elim (λ l. omega arith) (λ f. false≢true (sym f ∙ e)) (k .1))
 
-      pub first-none : {at : ℕ} → Follower area n c (a + 1) at →
-          Swept (WithFirst ws states area n (s₀ .made) c a at) (Given (s₀ .made)) gathered₀ s₀ gathered₀ s₀
-      first-none f = none-asked (none-first f)
+    module _ {t : Triplet} (is : t ≡ inOrder c a b) (triplet : IsTriplet area (size .types) t) {r : ℕ}
+        (outlook : Outlook states area (met₀ .search .made) t r) {mismatches : List ℕ}
+        (remembered : Remembered states mismatches (size .width) (met₀ .search .made)) (same : length mismatches ≡ length mismatches₀) where
+      -- The floor is lowered to its outlook, whatever the search comes to.
+      here-met : {gathered guesses : Bytes} {s : Search} → length guesses ≡ 4096 →
+          Swept (Here ws states area (size .types) (met₀ .search .made) c a b) (Given ready (met₀ .search .made)) gathered₀ (met₀ .search) gathered s →
+          Passed ws states area size met₀ (Here ws states area (size .types) (met₀ .search .made) c a b) mismatches₀ gathered₀ mismatches gathered guesses
+          (met s (min (met₀ .floor) r))
+      here-met long swept = record {
+        kept = record { remembered = remembered; mismatches-size = same; guesses-size = long };
+        swept = swept;
+        floored = record { no-higher = omega arith; no-less = λ x cost k. omega (arith, here-no-less ready c a b is triplet outlook x cost k) };
+      }
 
-      pub first-open : {at low : ℕ} → Follower area n c (a + 1) at → Floored (WithFirst ws states area n (s₀ .made) c a at) low low
-      first-open f = floored-none (none-first f)
+      -- It is passed where that does not matter.
+      pub here-dear : met₀ .search .below ≤ r →
+          Passed ws states area size met₀ (Here ws states area (size .types) (met₀ .search .made) c a b) mismatches₀ gathered₀ mismatches gathered₀ guesses₀
+          (met (met₀ .search) (min (met₀ .floor) r))
+      here-dear h = here-met (ready .guesses-size) (swept-none (λ x cost k. inl (omega (arith, here-no-less ready c a b is triplet outlook x cost k))) (ready .room))
 
-      -- It comes to a type b, and its triplet is skipped, dropped, settled or visited.
-      module _ {b to : ℕ} {gathered : Bytes} {s : Search} (follows : Follower area n c (b + 1) to)
-          (so-far : Swept (WithFirst ws states area n (s₀ .made) c a b) (Given (s₀ .made)) gathered₀ s₀ gathered s) where
-        first-more : {found′ : Bytes} {s′ : Search} →
-            Swept (Here ws states area n (s .made) c a b) (Given (s .made)) gathered s found′ s′ →
-            Swept (WithFirst ws states area n (s₀ .made) c a to) (Given (s₀ .made)) gathered₀ s₀ found′ s′
-        first-more q = one-more (λ made. Here ws states area n made c a b) so-far q (λ x cost. which-second follows)
-
-        -- It is met at type a.
-        elsewhere : a ≤ c → marked area a b ≡ true → {made : ℕ} {x : Bytes} {cost : ℕ} → Here ws states area n made c a b x cost → ⊥
-        elsewhere h e k = ⊎-elim (λ l. omega arith) (λ f. false≢true (sym f ∙ e)) (k .1)
-
-        pub first-skipped : a ≤ c → marked area a b ≡ true →
-            Swept (WithFirst ws states area n (s₀ .made) c a to) (Given (s₀ .made)) gathered₀ s₀ gathered s
-        first-skipped h e = first-more (swept-none (λ x cost k. absurd (elsewhere h e k)) (so-far .room))
-
-        pub first-kept : a ≤ c → marked area a b ≡ true → {high low : ℕ} → Floored (WithFirst ws states area n (s₀ .made) c a b) high low →
-            Floored (WithFirst ws states area n (s₀ .made) c a to) high low
-        first-kept h e f = floored-more f (floored-none (λ x cost k. elsewhere h e k)) (λ x cost. which-second follows)
-
-        module _ {t : Triplet} (is : t ≡ inOrder c a b) (triplet : IsTriplet area n t) where
-          -- Nothing that it gives costs less than its outlook.
-          module _ {r : ℕ} (outlook : Outlook states area (s .made) t r) where
-            here-no-less : (x : Bytes) (cost : ℕ) → Here ws states area n (s .made) c a b x cost → r ≤ cost
-            here-no-less x cost k =
-                let gives : Gives ws states (s .made) t x cost = rw is (k .2) in
-                let lie : 64 * s .made ≤ length states = rw (so-far .made-stays) (ready .lie) in
-                let inside : t .w < s .made = rw (so-far .made-stays) (ready-inside triplet .w-made) in
-                ⊎-elim
-                (λ e. omega (arith, no-less (ready .weighed) lie (triplet .rising) inside (k .0) (triplet .current) gives))
-                (λ settled.
-                let (i, h, e) = settled .0 (gives .median .number) (gives .median .below-three) in
-                absurd (gives .unmade i h (e ∙ sym (gives .median .row-is))))
-                outlook
-
-            -- So it is passed where that does not matter, and the floor is lowered to it.
-            pub first-passed : s .below ≤ r → Swept (WithFirst ws states area n (s₀ .made) c a to) (Given (s₀ .made)) gathered₀ s₀ gathered s
-            first-passed h = first-more (swept-none (λ x cost k. inl (omega (arith, here-no-less x cost k))) (so-far .room))
-
-            pub first-lowered : {high low : ℕ} → Floored (WithFirst ws states area n (s₀ .made) c a b) high low →
-                Floored (WithFirst ws states area n (s₀ .made) c a to) high (min low r)
-            first-lowered f = floored-more f here (λ x cost. which-second follows)
-              where
-                here : {low : ℕ} → Floored (Here ws states area n (s₀ .made) c a b) low (min low r)
-                here = record {
-                  no-higher = omega arith;
-                  no-less = λ x cost k. omega (arith, here-no-less x cost (rw (so-far .made-stays) k));
-                }
-
-          -- It is visited, and what it gives is a candidate.
-          pub first-visited : {found′ : Bytes} {s′ : Search} →
-              Swept (Gives ws states (s .made) t) (Gives ws states (s .made) t) gathered s found′ s′ →
-              Swept (WithFirst ws states area n (s₀ .made) c a to) (Given (s₀ .made)) gathered₀ s₀ found′ s′
-          first-visited q =
-              first-more (swept-as (λ x cost k. rw is (k .2)) (λ x cost g. record { triplet = t; is-triplet = triplet; gives = g }) q)
+      -- It is visited, and what it gives is a candidate.
+      pub here-visited : {gathered guesses : Bytes} {s : Search} → length guesses ≡ 4096 →
+          Swept (Gives ws states (met₀ .search .made) t) (Gives ws states (met₀ .search .made) t) gathered₀ (met₀ .search) gathered s →
+          Passed ws states area size met₀ (Here ws states area (size .types) (met₀ .search .made) c a b) mismatches₀ gathered₀ mismatches gathered guesses
+          (met s (min (met₀ .floor) r))
+      here-visited long q =
+          here-met long (swept-as (λ x cost k. rw is (k .2)) (λ x cost g. record { triplet = t; is-triplet = triplet; gives = g }) q)

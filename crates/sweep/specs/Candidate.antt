@@ -18,6 +18,7 @@ use Rattle.triplets.specs.declared.Triplet.{Triplet}
 use Rattle.triplets.specs.Mismatches.{Narrow, Cached}
 use Rattle.medians.specs.Swept.{Gives}
 use Rattle.medians.specs.declared.search.Search.{Search}
+use Rattle.sweep.specs.declared.Size.{Size}
 
 -- RULES 9.1: a triplet of the n types; its numbers ascend.
 pub record IsTriplet (area : List ℕ) (n : ℕ) (t : Triplet) : Type 0 where
@@ -64,12 +65,12 @@ pub record Remembered (states : Bytes) (mismatches : List ℕ) (m made : ℕ) : 
   pub narrow : Narrow states made m
   pub cached : Cached states m made mismatches
 
--- What a search through the triplets of n types needs, and what it keeps besides the rows gathered.
-pub record Sweepable (states : Bytes) (area ws next mismatches : List ℕ) (gathered : Bytes) (guesses : List ℕ) (m n : ℕ) (s : Search) : Type 0 where
+-- What a search through the triplets of the current types needs, and what it keeps besides the rows gathered.
+pub record Sweepable (states : Bytes) (area ws next mismatches : List ℕ) (gathered : Bytes) (guesses : List ℕ) (size : Size) (s : Search) : Type 0 where
   pub weighed : Weighed ws
-  pub follows : Followers area n next
-  pub remembered : Remembered states mismatches m (s .made)
-  pub current : n ≤ s .made
+  pub follows : Followers area (size .types) next
+  pub remembered : Remembered states mismatches (size .width) (s .made)
+  pub current : size .types ≤ s .made
   pub room : s .made + s .count ≤ mostTypes
   pub lie : rowSize * s .made ≤ length states
   pub cells : distanceArea ≤ length area

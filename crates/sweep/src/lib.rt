@@ -8,22 +8,81 @@ ghost use lib.ListN.{length};
 ghost use Rattle.triplets.specs.Triplet.{noCost};
 ghost use Rattle.rules.specs.Sizes.{mostTypes, rowSize, distanceArea};
 ghost use Rattle.links.specs.Marks.{marked};
-ghost use Rattle.medians.specs.Swept.{Swept};
-ghost use Rattle.sweep.specs.Candidate.{Candidate, WithFirst, AtCentre, Everywhere, Remembered, Sweepable, TablesKept};
-ghost use Rattle.sweep.specs.Floors.{Outlook, Floored, Floors};
+ghost use Rattle.sweep.specs.Candidate.{WithFirst, AtCentre, Remembered, Sweepable};
+ghost use Rattle.sweep.specs.Floors.{met, Outlook, Passed, Floors, Surveyed};
 use medians::search::Search;
 use medians::visit::visit;
 use rules::LINE;
+use rules::MOST_TYPES;
 use triplets::FOLLOWERS_LINE;
 use triplets::NO_COST;
 use triplets::Triplet;
 use triplets::cost_floor;
 use triplets::in_order;
 
+// How many characters are in use, and how many types are current.
+pub struct Size {
+    pub width: usize,
+    pub types: usize,
+}
+
 // What is met: the search has come to this, and no candidate met costs less than the floor.
 struct Met {
     search: Search,
     floor: usize,
+}
+
+impl Met {
+    // The search, and a floor of what it met.
+    fn new(search: Search, floor: usize) -> Self
+        ensures { λ r. ⌜ r ≡ met search floor ⌝ }
+    {
+        Met { search, floor }
+    }
+}
+
+// A type c, and the search that comes to it.
+struct Centre {
+    size: Size,
+    search: Search,
+    c: usize,
+}
+
+// A type c and a type a linked with it, and what was met before.
+struct Pair {
+    size: Size,
+    met: Met,
+    c: usize,
+    a: usize,
+}
+
+// How far all triplets are searched: the search has come to this, and there is a floor for each type.
+pub struct Survey {
+    pub size: Size,
+    pub search: Search,
+    pub floors: [usize; MOST_TYPES],
+}
+
+impl Survey {
+    // Another search through the same triplets: the floors serve it too.
+    pub fn again(self, search: Search) -> Self
+        ensures { λ r. ⌜ (r .size ≡ self .size) × (r .search ≡ search) × (r .floors ≡ self .floors) ⌝ }
+    {
+        let floors = self.floors;
+        self.with(search, floors)
+    }
+
+    // The search has come to this, and floors were found anew.
+    fn with(self, search: Search, floors: [usize; MOST_TYPES]) -> Self
+        ensures { λ r. ⌜ (r .size ≡ self .size) × (r .search ≡ search) × (r .floors ≡ floors) ⌝ }
+    {
+        let size = self.size;
+        Survey {
+            size,
+            search,
+            floors,
+        }
+    }
 }
 
 fn lesser(x: usize, y: usize) -> usize
@@ -70,21 +129,20 @@ fn with_first(
     hints: &[u64],
     gathered: &mut [u8],
     guesses: &mut [u16],
-    m: usize,
-    n: usize,
-    search: Search,
-    floor: usize,
-    c: usize,
-    a: usize,
+    pair: Pair,
 ) -> Met
-    requires { ⌜ Sweepable (now states) (now area) (now weights) (now next) (now mismatches) (now gathered) (now guesses) m n search × (c < n) × (a < n) × (marked (now area) c a ≡ true) ⌝ }
-    ensures { λ r. ⌜ TablesKept (now (states .entry)) m (search .made) (now (mismatches .entry)) (now (mismatches .exit)) (now (guesses .exit))
-        × Swept (WithFirst (now (weights .entry)) (now (states .entry)) (now (area .entry)) n (search .made) c a n)
-        (Candidate (now (weights .entry)) (now (states .entry)) (now (area .entry)) n (search .made)) (now (gathered .entry)) search (now (gathered .exit)) (r .search)
-        × Floored (WithFirst (now (weights .entry)) (now (states .entry)) (now (area .entry)) n (search .made) c a n) floor (r .floor) ⌝ }
+    requires { ⌜ Sweepable (now states) (now area) (now weights) (now next) (now mismatches) (now gathered) (now guesses) (pair .size) (pair .met .search)
+        × (pair .c < pair .size .types) × (pair .a < pair .size .types) × (marked (now area) (pair .c) (pair .a) ≡ true) ⌝ }
+    ensures { λ r. ⌜ Passed (now (weights .entry)) (now (states .entry)) (now (area .entry)) (pair .size) (pair .met)
+        (WithFirst (now (weights .entry)) (now (states .entry)) (now (area .entry)) (pair .size .types) (pair .met .search .made) (pair .c) (pair .a) (pair .size .types))
+        (now (mismatches .entry)) (now (gathered .entry)) (now (mismatches .exit)) (now (gathered .exit)) (now (guesses .exit)) r ⌝ }
 {
-    let mut now = search;
-    let mut low = floor;
+    let m = pair.size.width;
+    let n = pair.size.types;
+    let c = pair.c;
+    let a = pair.a;
+    let mut now = pair.met.search;
+    let mut low = pair.met.floor;
     let mut b = next[FOLLOWERS_LINE * c + a + 1] as usize;
     while b < n {
         if c < a || area[LINE * b + a] != 1 {
@@ -97,10 +155,7 @@ fn with_first(
         }
         b = next[FOLLOWERS_LINE * c + b + 1] as usize;
     }
-    Met {
-        search: now,
-        floor: low,
-    }
+    Met::new(now, low)
 }
 
 // The triplets of type c and two types linked with it.
@@ -113,24 +168,20 @@ fn at_centre(
     hints: &[u64],
     gathered: &mut [u8],
     guesses: &mut [u16],
-    m: usize,
-    n: usize,
-    search: Search,
-    c: usize,
+    at: Centre,
 ) -> Met
-    requires { ⌜ Sweepable (now states) (now area) (now weights) (now next) (now mismatches) (now gathered) (now guesses) m n search × (c < n) ⌝ }
-    ensures { λ r. ⌜ TablesKept (now (states .entry)) m (search .made) (now (mismatches .entry)) (now (mismatches .exit)) (now (guesses .exit))
-        × Swept (AtCentre (now (weights .entry)) (now (states .entry)) (now (area .entry)) n (search .made) c n)
-        (Candidate (now (weights .entry)) (now (states .entry)) (now (area .entry)) n (search .made)) (now (gathered .entry)) search (now (gathered .exit)) (r .search)
-        × Floored (AtCentre (now (weights .entry)) (now (states .entry)) (now (area .entry)) n (search .made) c n) noCost (r .floor) ⌝ }
+    requires { ⌜ Sweepable (now states) (now area) (now weights) (now next) (now mismatches) (now gathered) (now guesses) (at .size) (at .search) × (at .c < at .size .types) ⌝ }
+    ensures { λ r. ⌜ Passed (now (weights .entry)) (now (states .entry)) (now (area .entry)) (at .size) (met (at .search) noCost)
+        (AtCentre (now (weights .entry)) (now (states .entry)) (now (area .entry)) (at .size .types) (at .search .made) (at .c) (at .size .types))
+        (now (mismatches .entry)) (now (gathered .entry)) (now (mismatches .exit)) (now (gathered .exit)) (now (guesses .exit)) r ⌝ }
 {
-    let mut now = Met {
-        search,
-        floor: NO_COST,
-    };
+    let size = at.size;
+    let n = size.types;
+    let c = at.c;
+    let mut met = Met::new(at.search, NO_COST);
     let mut a = next[FOLLOWERS_LINE * c] as usize;
     while a < n {
-        now = with_first(
+        met = with_first(
             states,
             area,
             weights,
@@ -139,16 +190,11 @@ fn at_centre(
             hints,
             gathered,
             guesses,
-            m,
-            n,
-            now.search,
-            now.floor,
-            c,
-            a,
+            Pair { size, met, c, a },
         );
         a = next[FOLLOWERS_LINE * c + a + 1] as usize;
     }
-    now
+    met
 }
 
 // All triplets. A type is passed over where its floor says that nothing of a cost that matters is met there.
@@ -157,26 +203,22 @@ pub fn sweep(
     area: &[u16],
     weights: &[u16],
     next: &[u16],
-    floors: &mut [usize],
     mismatches: &mut [u64],
     hints: &[u64],
     gathered: &mut [u8],
     guesses: &mut [u16],
-    m: usize,
-    n: usize,
-    search: Search,
-) -> Search
-    requires { ⌜ Sweepable (now states) (now area) (now weights) (now next) (now mismatches) (now gathered) (now guesses) m n search
-        × Floors (now weights) (now states) (now area) n (search .made) (now floors) ⌝ }
-    ensures { λ r. ⌜ TablesKept (now (states .entry)) m (search .made) (now (mismatches .entry)) (now (mismatches .exit)) (now (guesses .exit))
-        × Swept (Everywhere (now (weights .entry)) (now (states .entry)) (now (area .entry)) n (search .made) n)
-        (Candidate (now (weights .entry)) (now (states .entry)) (now (area .entry)) n (search .made)) (now (gathered .entry)) search (now (gathered .exit)) r
-        × Floors (now (weights .entry)) (now (states .entry)) (now (area .entry)) n (search .made) (now (floors .exit)) ⌝ }
+    survey: Survey,
+) -> Survey
+    requires { ⌜ Sweepable (now states) (now area) (now weights) (now next) (now mismatches) (now gathered) (now guesses) (survey .size) (survey .search)
+        × Floors (now weights) (now states) (now area) (survey .size .types) (survey .search .made) (survey .floors) ⌝ }
+    ensures { λ r. ⌜ Surveyed (now (weights .entry)) (now (states .entry)) (now (area .entry)) survey (now (mismatches .entry)) (now (gathered .entry))
+        (now (mismatches .exit)) (now (gathered .exit)) (now (guesses .exit)) r ⌝ }
 {
-    let mut now = search;
-    let mut c = 0;
-    while c < n {
-        if floors[c] < now.below {
+    let size = survey.size;
+    let mut search = survey.search;
+    let mut floors = survey.floors;
+    for c in 0..size.types {
+        if floors[c] < search.below {
             let met = at_centre(
                 states,
                 area,
@@ -186,15 +228,11 @@ pub fn sweep(
                 hints,
                 gathered,
                 guesses,
-                m,
-                n,
-                now,
-                c,
+                Centre { size, search, c },
             );
-            now = met.search;
+            search = met.search;
             floors[c] = met.floor;
         }
-        c += 1;
     }
-    now
+    survey.with(search, floors)
 }

@@ -1,9 +1,9 @@
 -- The table of followers is filled: a line from its end to its start, and line after line.
 use mathlib.Core.Path.{_≡_, refl, _∙_}
-use mathlib.Core.Logic.{_⊎_, inl, inr, _≢_}
+use mathlib.Core.Logic.{_⊎_, ⊎-elim, _≢_}
 use mathlib.Core.Bool.{true, false}
 use mathlib.Core.List.{List}
-use Prim.Native.Nat.{ℕ, _+_, _*_, _≤_, _<_}
+use Prim.Native.Nat.{ℕ, _+_, _*_, _-_, _≤_, _<_}
 use native.Mathlib.Decide.{ℕ-discrete}
 use native.Mathlib.Omega.{arith}
 use lib.Dec.{eqb}
@@ -43,12 +43,6 @@ module _ {area : List ℕ} {n c : ℕ} where
   pub follower-self : {r : ℕ} → Follower area n c (c + 1) r → Follower area n c c r
   follower-self f = follower-later refl (rw (eq-eqb c c refl)) f
 
-  -- A turn of the code: the mark of type j is read, and the follower is j or as it was.
-  pub follower-turn : {i j r r′ cell : ℕ} → i ≡ j + 1 → j < n → marked area c j ≡ eqb cell 1 → Follower area n c i r →
-      ((cell ≡ 1) × (r′ ≡ j)) ⊎ ((cell ≢ 1) × (r′ ≡ r)) → Follower area n c j r′
-  follower-turn e h m f (inl (t, is)) = rw is (follower-here h (m ∙ eq-eqb _ _ t))
-  follower-turn e h m f (inr (t, is)) = rw is (follower-later e (m ∙ ne-eqb _ _ t) f)
-
 module _ {area : List ℕ} {n c : ℕ} where
   -- One place more, the one before those filled.
   pub one-filled : {before next : List ℕ} {i r : ℕ} (j : ℕ) → i ≡ j + 1 → j ≤ n → n ≤ 128 → c < n → length before ≡ 16512 →
@@ -77,6 +71,27 @@ module _ {area : List ℕ} {n c : ℕ} where
   pub filled-then : {before mid next : List ℕ} {i j : ℕ} → FollowLine area n c i before mid → FollowLine area n c j mid next →
       FollowLine area n c j before next
   filled-then t s = record { size = s .size ∙ t .size; line = s .line; kept = λ d k other h. s .kept d k other h ∙ t .kept d k other h }
+
+-- A line is filled from place i on, and this is the follower there.
+pub record Filling (area : List ℕ) (n c i follower : ℕ) (before next : List ℕ) : Type 0 where
+  pub within : i ≤ n
+  pub follower-is : Follower area n c i follower
+  pub line : FollowLine area n c i before next
+
+-- A turn of the code: the mark of the type before place i is read, the follower is that type or as it was, and one place more is filled.
+pub one-turn : {area : List ℕ} {n c i r r′ cell : ℕ} {before next : List ℕ} → n ≤ 128 → c < n → length before ≡ 16512 → 0 < i →
+    marked area c (i - 1) ≡ eqb cell 1 → Filling area n c i r before next → ((cell ≡ 1) × (r′ ≡ i - 1)) ⊎ ((cell ≢ 1) × (r′ ≡ r)) →
+    Filling area n c (i - 1) r′ before (set next (129 * c + (i - 1)) r′)
+one-turn {area} {n} {c} {i} {r′ = r′} small l room h mark t which =
+    let one : i ≡ i - 1 + 1 = omega arith in
+    let f : Follower area n c (i - 1) r′ =
+    ⊎-elim (λ w. rw (w .1) (follower-here (omega (arith, t .within)) (mark ∙ eq-eqb _ _ (w .0))))
+    (λ w. rw (w .1) (follower-later one (mark ∙ ne-eqb _ _ (w .0)) (t .follower-is))) which in
+    record {
+      within = omega (arith, t .within);
+      follower-is = f;
+      line = one-filled (i - 1) one (omega (arith, t .within)) small l room (t .line) f;
+    }
 
 -- The lines before c are filled.
 pub record Lines (area : List ℕ) (n c : ℕ) (next : List ℕ) : Type 0 where

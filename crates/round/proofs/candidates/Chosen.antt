@@ -24,17 +24,13 @@ use Rattle.round.proofs.ascending.Inserted.{length-laid-sorted}
 use Rattle.medians.specs.Search.{forLambda, forAll}
 use Rattle.medians.specs.declared.search.Search.{Search}
 use Rattle.medians.specs.Swept.{Gathered, Swept}
+use Rattle.sweep.specs.declared.Survey.{Survey}
 use Rattle.sweep.specs.Candidate.{Candidate, Faithful, Everywhere}
+use Rattle.sweep.specs.Floors.{Surveyed}
 use Rattle.round.specs.declared.candidates.Added.{Added}
-use Rattle.round.specs.Fresh.{withRows, InWindow, All, TooMany, Fresh, NoneFits}
+use Rattle.round.specs.Fresh.{withRows, LambdaSought, InWindow, All, TooMany, Fresh, NoneFits}
 use Rattle.sweep.proofs.Dropped.{gives-small}
 use Rattle.sweep.proofs.Seated.{candidate-met}
-
--- Lambda: some candidate costs this, and none costs less.
-pub record IsLambda (ws : List ℕ) (states : Bytes) (area : List ℕ) (n made lambda : ℕ) : Type 0 where
-  pub row : Bytes
-  pub met : Candidate ws states area n made row lambda
-  pub least : (x : Bytes) (cost : ℕ) → Candidate ws states area n made x cost → lambda ≤ cost
 
 -- A cost is small.
 pub candidate-small : {ws : List ℕ} {states : Bytes} {area : List ℕ} {n made : ℕ} → Weighed ws → n ≤ made → 64 * made ≤ length states →
@@ -75,125 +71,130 @@ module _ (found : Bytes) (count : ℕ) (row : Bytes) where
   unfolding withLast
   with-last-row k h = rw (le-ltb k count h)
 
-module _ {ws : List ℕ} {states : Bytes} {area : List ℕ} {n made : ℕ} where
-  -- The first sweep, in which no row is gathered.
-  module _ {found₁ : Bytes} {least : Search}
-      (first : Swept (Everywhere ws states area n made n) (Candidate ws states area n made) (replicate 8192 0) (forLambda made) found₁ least) where
-    none : least .count ≡ 0
-    none = first .count-stays refl
-
-    -- The memory for rows holds zeros still.
-    still-zeros : found₁ ≡ replicate 8192 0
-    still-zeros = ext-getD 0 found₁ (replicate 8192 0) (first .size) (λ p h. first .rest-stays p (omega (arith, none)))
-
-    lowest : Faithful ws states area n → (x : Bytes) (cost : ℕ) → Candidate ws states area n made x cost → least .below ≤ cost
-    lowest faithful x cost k =
-        ⊎-elim (λ l. l) (λ d. absurd (omega (arith, none, d .1))) (first .deals x cost (candidate-met faithful x cost k))
-
-    lambda-found : Faithful ws states area n → least .below ≢ 128001 → IsLambda ws states area n made (least .below)
-    lambda-found faithful lower =
-        ⊎-elim (λ e. absurd (lower e)) (λ g. record { row = g .0; met = g .1; least = lowest faithful }) (first .lowers refl)
-
-    -- There is no candidate.
-    pub fresh-none : (e : ℕ) → Weighed ws → n ≤ made → made ≤ 128 → 64 * made ≤ length states → least .below ≡ 128001 →
-        Fresh ws states area n made e (withRows found₁ 0)
-    fresh-none e weighed few room lie high = record {
-      size = first .size ∙ simp length-replicate;
-      room = omega arith;
-      all = λ faithful _.
-          none-added _ (λ x cost k. omega (arith, lowest faithful x cost k, candidate-small weighed few lie k)) refl still-zeros;
-      too-many = λ _ f. absurd (false≢true f);
-      none-then = λ f. (refl, still-zeros);
+-- The first sweep, in which no row is gathered, comes to lambda.
+pub lambda-sought : {ws : List ℕ} {states : Bytes} {area : List ℕ} {v v′ : Survey} {mismatches mismatches′ : List ℕ} {found guesses : Bytes} (made : ℕ) →
+    Surveyed ws states area v mismatches (replicate 8192 0) mismatches′ found guesses v′ → v .search ≡ forLambda made → LambdaSought ws states area v′
+lambda-sought {ws} {states} {area} {v} {v′} made e is =
+    let first = e .swept in
+    let seeking : v .search .gathering ≡ false = rw is refl in
+    let from : v .search .below ≡ 128001 = rw is refl in
+    let none : v .search .count ≡ 0 = rw is refl in
+    record {
+      no-higher = omega (arith, first .no-higher);
+      met = λ lower.
+          ⊎-elim (λ same. absurd (lower (same ∙ from))) (λ g. (g .0, rw (e .size-stays, first .made-stays) (g .1))) (first .lowers seeking);
+      least = λ faithful x cost k.
+          let met = candidate-met (rw (e .size-stays) at faithful) x cost (rw (e .size-stays, first .made-stays) at k) in
+          ⊎-elim (λ l. l) (λ d. absurd (omega (arith, first .count-stays seeking, d .1))) (first .deals x cost met);
+      floors = rw (e .size-stays, first .made-stays) (e .floors);
     }
 
-    -- The second sweep.
-    module _ (e : ℕ) (lower : least .below ≢ 128001) {found₂ : Bytes} {all : Search}
-        (second : Swept (Everywhere ws states area n made n) (Candidate ws states area n made) found₁ (forAll made (least .below + e + 1)) found₂ all) where
-      gathered : Gathered (Candidate ws states area n made) found₁ (forAll made (least .below + e + 1)) found₂ all
-      gathered = second .gathers refl
+module _ {ws : List ℕ} {states : Bytes} {area : List ℕ} {v : Survey} (sought : LambdaSought ws states area v) where
+  abbrev n : ℕ
+  n = v .size .types
 
-      found-differ : (i k : ℕ) → i < k → k < all .count → storedAt found₂ i ≢ storedAt found₂ k
-      found-differ i k h l = gathered .differ i k h (omega arith) l
+  abbrev made : ℕ
+  made = v .search .made
 
-      module _ (faithful : Faithful ws states area n) where
-        in-window : (x : Bytes) (cost : ℕ) → Candidate ws states area n made x cost → cost < least .below + e + 1 → InWindow ws states area n made e x
-        in-window x cost k h = record { cost = cost; candidate = k; cheap = λ y other l. omega (arith, lowest faithful y other l) }
+  -- There is no candidate.
+  pub fresh-none : (e : ℕ) → Weighed ws → n ≤ made → made ≤ 128 → 64 * made ≤ length states → v .search .below ≡ 128001 →
+      Fresh ws states area n made e (withRows (replicate 8192 0) 0)
+  fresh-none e weighed few room lie high = record {
+    size = simp length-replicate;
+    room = omega arith;
+    all = λ faithful _.
+        none-added _ (λ x cost k. omega (arith, sought .least faithful x cost k, candidate-small weighed few lie k)) refl refl;
+    too-many = λ _ f. absurd (false≢true f);
+    none-then = λ f. (refl, refl);
+  }
 
-        found-in-window : (k : ℕ) → k < all .count → InWindow ws states area n made e (storedAt found₂ k)
-        found-in-window k h = let (cost, c, l) = gathered .newer k (omega arith) h in in-window (storedAt found₂ k) cost c l
+  -- The second sweep.
+  module _ (e : ℕ) (lower : v .search .below ≢ 128001) {found : Bytes} {all : Search}
+      (second : Swept (Everywhere ws states area n made n) (Candidate ws states area n made) (replicate 8192 0) (forAll made (v .search .below + e + 1)) found all) where
+    gathered : Gathered (Candidate ws states area n made) (replicate 8192 0) (forAll made (v .search .below + e + 1)) found all
+    gathered = second .gathers refl
 
-        all-gathered : (r : Added) → all .full ≡ false → r .count ≡ all .count → r .rows ≡ padded 8192 (laid (sorted (all .count) (storedAt found₂))) →
-            All ws states area n made e r
-        all-gathered r open-is count-is rows-are = record {
-          xs = sorted (all .count) (storedAt found₂);
-          ascends = sorted-ascends (all .count) (storedAt found₂) found-differ;
-          exact = λ x. (
-            λ h. let (k, l, f) = in-sorted (all .count) (storedAt found₂) x .0 h in rw f (found-in-window k l),
-            λ w.
-                let lambda = lambda-found faithful lower in
-                let cheap = w .cheap (lambda .row) (least .below) (lambda .met) in
-                ⊎-elim
-                (λ dear. absurd (omega (arith, gathered .still-open open-is .1)))
-                (λ d. in-sorted (all .count) (storedAt found₂) x .1 (d .0, d .1, sym (d .2)))
-                (second .deals x (w .cost) (candidate-met faithful x (w .cost) (w .candidate))),
-          );
-          count-is = count-is ∙ sym (length-sorted (all .count) (storedAt found₂));
-          rows-are = rows-are;
-        }
+    found-differ : (i k : ℕ) → i < k → k < all .count → storedAt found i ≢ storedAt found k
+    found-differ i k h l = gathered .differ i k h (omega arith) l
 
-        -- The rows gathered and the one that found no room are one more than there is room for.
-        crowded : all .full ≡ true → TooMany ws states area n made e
-        crowded full =
-            let c = gathered .crowd refl full in
-            let m = all .count + 1 in
-            let f = withLast found₂ (all .count) (c .row) in
-            let early = with-last-found found₂ (all .count) (c .row) in
-            let late = with-last-row found₂ (all .count) (c .row) in
-            record {
-              xs = sorted m f;
-              ascends = sorted-ascends m f (λ i k h l. elim (decLt k (all .count)) [
-                | yes g ↦ rw (early i (omega arith), early k g) (found-differ i k h g)
-                | no g ↦ rw (early i (omega arith), late k (omega arith)) (c .another i (omega arith))
-              ]);
-              each = λ x h.
-                  let (k, l, is) = in-sorted m f x .0 h in
-                  elim (decLt k (all .count)) [
-                    | yes g ↦ rw (is, early k g) (found-in-window k g)
-                    | no g ↦ rw (is, late k (omega arith)) (in-window (c .row) (c .cost) (c .is-given) (c .matters))
-                  ];
-              no-room = omega (arith, length-sorted m f, c .all-used, second .made-stays);
-            }
+    module _ (faithful : Faithful ws states area n) where
+      in-window : (x : Bytes) (cost : ℕ) → Candidate ws states area n made x cost → cost < v .search .below + e + 1 → InWindow ws states area n made e x
+      in-window x cost k h = record { cost = cost; candidate = k; cheap = λ y other l. omega (arith, sought .least faithful y other l) }
 
-      -- There is no room.
-      pub fresh-full : made ≤ 128 → all .full ≡ true → {r : Added} → NoneFits r → Fresh ws states area n made e r
-      fresh-full room full {r} (rows-are, count-is, full-is) = record {
-        size = rw rows-are (simp length-replicate);
-        room = omega arith;
-        all = λ _ f. absurd (false≢true (sym f ∙ full-is));
-        too-many = λ faithful _. crowded faithful full;
-        none-then = λ _. (count-is, rows-are);
+      found-in-window : (k : ℕ) → k < all .count → InWindow ws states area n made e (storedAt found k)
+      found-in-window k h = let (cost, c, l) = gathered .newer k (omega arith) h in in-window (storedAt found k) cost c l
+
+      all-gathered : (r : Added) → all .full ≡ false → r .count ≡ all .count → r .rows ≡ padded 8192 (laid (sorted (all .count) (storedAt found))) →
+          All ws states area n made e r
+      all-gathered r open-is count-is rows-are = record {
+        xs = sorted (all .count) (storedAt found);
+        ascends = sorted-ascends (all .count) (storedAt found) found-differ;
+        exact = λ x. (
+          λ h. let (k, l, f) = in-sorted (all .count) (storedAt found) x .0 h in rw f (found-in-window k l),
+          λ w.
+              let cheapest = sought .met lower in
+              let cheap = w .cheap (cheapest .0) (v .search .below) (cheapest .1) in
+              ⊎-elim
+              (λ dear. absurd (omega (arith, gathered .still-open open-is .1)))
+              (λ d. in-sorted (all .count) (storedAt found) x .1 (d .0, d .1, sym (d .2)))
+              (second .deals x (w .cost) (candidate-met faithful x (w .cost) (w .candidate))),
+        );
+        count-is = count-is ∙ sym (length-sorted (all .count) (storedAt found));
+        rows-are = rows-are;
       }
 
-      -- There is room for all.
-      pub fresh-all : all .full ≡ false → {rows : Bytes} → rows ≡ placed found₂ 0 (laid (sorted (all .count) (storedAt found₂))) →
-          Fresh ws states area n made e (withRows rows (all .count))
-      fresh-all open-is {rows} sorts = record {
-        size = ap length sorts ∙ length-placed found₂ _ 0 (omega (arith, long, second .room, size)) ∙ size;
-        room = omega (arith, second .room, second .made-stays);
-        all = λ faithful _. all-gathered faithful _ open-is refl rows-are;
-        too-many = λ _ f. absurd (false≢true f);
-        none-then = λ f. absurd (false≢true f);
-      }
-        where
-          size : length found₂ ≡ 8192
-          size = second .size ∙ first .size ∙ length-replicate {A = ℕ} 8192 0
+      -- The rows gathered and the one that found no room are one more than there is room for.
+      crowded : all .full ≡ true → TooMany ws states area n made e
+      crowded full =
+          let c = gathered .crowd refl full in
+          let m = all .count + 1 in
+          let f = withLast found (all .count) (c .row) in
+          let early = with-last-found found (all .count) (c .row) in
+          let late = with-last-row found (all .count) (c .row) in
+          record {
+            xs = sorted m f;
+            ascends = sorted-ascends m f (λ i k h l. elim (decLt k (all .count)) [
+              | yes g ↦ rw (early i (omega arith), early k g) (found-differ i k h g)
+              | no g ↦ rw (early i (omega arith), late k (omega arith)) (c .another i (omega arith))
+            ]);
+            each = λ x h.
+                let (k, l, is) = in-sorted m f x .0 h in
+                elim (decLt k (all .count)) [
+                  | yes g ↦ rw (is, early k g) (found-in-window k g)
+                  | no g ↦ rw (is, late k (omega arith)) (in-window (c .row) (c .cost) (c .is-given) (c .matters))
+                ];
+            no-room = omega (arith, length-sorted m f, c .all-used, second .made-stays);
+          }
 
-          long : length (laid (sorted (all .count) (storedAt found₂))) ≡ 64 * all .count
-          long = length-laid-sorted found₂ (all .count) (omega (arith, second .room, size))
+    -- There is no room.
+    pub fresh-full : made ≤ 128 → all .full ≡ true → {r : Added} → NoneFits r → Fresh ws states area n made e r
+    fresh-full room full {r} (rows-are, count-is, full-is) = record {
+      size = rw rows-are (simp length-replicate);
+      room = omega arith;
+      all = λ _ f. absurd (false≢true (sym f ∙ full-is));
+      too-many = λ faithful _. crowded faithful full;
+      none-then = λ _. (count-is, rows-are);
+    }
 
-          rows-are : rows ≡ padded 8192 (laid (sorted (all .count) (storedAt found₂)))
-          rows-are =
-              sorts
-              ∙ same-behind found₂ (replicate 8192 0) _ (second .size ∙ first .size)
-              (λ p h. second .rest-stays p (omega (arith, long)) ∙ ap (λ (b : Bytes). getD b p 0) still-zeros)
-              ∙ placed-padded 8192 _
+    -- There is room for all.
+    pub fresh-all : all .full ≡ false → {rows : Bytes} → rows ≡ placed found 0 (laid (sorted (all .count) (storedAt found))) →
+        Fresh ws states area n made e (withRows rows (all .count))
+    fresh-all open-is {rows} sorts = record {
+      size = ap length sorts ∙ length-placed found _ 0 (omega (arith, long, second .room, size)) ∙ size;
+      room = omega (arith, second .room, second .made-stays);
+      all = λ faithful _. all-gathered faithful _ open-is refl rows-are;
+      too-many = λ _ f. absurd (false≢true f);
+      none-then = λ f. absurd (false≢true f);
+    }
+      where
+        size : length found ≡ 8192
+        size = second .size ∙ length-replicate {A = ℕ} 8192 0
+
+        long : length (laid (sorted (all .count) (storedAt found))) ≡ 64 * all .count
+        long = length-laid-sorted found (all .count) (omega (arith, second .room, size))
+
+        rows-are : rows ≡ padded 8192 (laid (sorted (all .count) (storedAt found)))
+        rows-are =
+            sorts
+            ∙ same-behind found (replicate 8192 0) _ (second .size) (λ p h. second .rest-stays p (omega (arith, long)))
+            ∙ placed-padded 8192 _

@@ -5,61 +5,50 @@ use mathlib.Core.Logic.{⊎-elim}
 use Prim.Native.Nat.{_+_, _*_, _-_}
 use native.Mathlib.Omega.{arith}
 use lib.ListN.{length, getD}
-use Rattle.medians.specs.Swept.{Swept}
-use Rattle.triplets.specs.Followers.{Follower}
 use Rattle.triplets.specs.Triplet.{inOrder}
 use Rattle.triplets.specs.declared.Triplet.{Triplet}
 use Rattle.triplets.proofs.Order.{mark-read}
-use Rattle.sweep.specs.Floors.{Floored}
-use Rattle.sweep.specs.Candidate.{IsTriplet, Candidate, WithFirst, Sweepable, TablesKept}
+use Rattle.sweep.specs.Floors.{met, Passed}
+use Rattle.sweep.specs.Candidate.{IsTriplet, WithFirst, Sweepable}
 use Rattle.sweep.proofs.Seated.{met-triplet}
-use Rattle.sweep.proofs.Walk.{Walk, walk-first, walk-next, follower-next, kept-mismatches, kept-guesses, kept-none, still-ready, ready-inside, first-none, first-open, first-skipped, first-kept, first-passed, first-lowered, first-visited}
+use Rattle.sweep.proofs.Walk.{Walk, Here, walk-first, walk-next, walk-less, walk-done, follower-next, which-second, ready-inside, ready-on, passed-more, first-none, here-skipped, here-dear, here-visited}
 use borrow.Author.Tests.{not-false}
 use Rattle.sweep.proofs.with_first.Statement.{statement}
 use Rattle.sweep.proofs.with_first.Tie as tie
 
 abbrev Inv-loop : tie.InvT-loop
-Inv-loop states area weights next mismatches₀ hints gathered₀ guesses₀ m n floor c a now₀ low₀ b₀ mismatches gathered guesses now low b =
+Inv-loop states area weights next mismatches₀ hints gathered₀ guesses₀ m n c a now₀ low₀ b₀ mismatches gathered guesses now low b =
     Walk area n c (a + 1) b
-    × TablesKept states m (now₀ .made) mismatches₀ mismatches guesses
-    × Swept (WithFirst weights states area n (now₀ .made) c a b) (Candidate weights states area n (now₀ .made)) gathered₀ now₀ gathered now
-    × Floored (WithFirst weights states area n (now₀ .made) c a b) floor low
+    × Passed weights states area (record { width = m; types = n }) (met now₀ low₀) (WithFirst weights states area n (now₀ .made) c a b) mismatches₀ gathered₀ mismatches gathered guesses (met now low)
 
 abbrev μ-loop : tie.MeasureT-loop
-μ-loop states area weights next mismatches₀ hints gathered₀ guesses₀ m n floor c a now₀ low₀ b₀ mismatches gathered guesses now low b = n - b
+μ-loop states area weights next mismatches₀ hints gathered₀ guesses₀ m n c a now₀ low₀ b₀ mismatches gathered guesses now low b = n - b
 
--- The function's start, what a search needs now, the next type's follower, and the triplet met.
+-- The function's start, what a search needs now, and the triplet met.
 abbrev start : tie.At-loop Inv-loop μ-loop → tie.Start Inv-loop μ-loop
-start c = c .before .before .before .before .before .before .before .before .before .before
+start c = c .before .before .before .before .before .before .before .before .before .before .before
 
 ready : (c : tie.At-loop Inv-loop μ-loop) →
     let s = start c .args in
-    Sweepable (s .states .now) (s .area .now) (s .weights .now) (s .next .now) (c .loop .mismatches) (c .loop .gathered) (c .loop .guesses) (s .m) (s .n) (c .loop .now)
-ready c = still-ready (start c .pre .0) (c .loop .inv .2) (c .loop .inv .1)
-
-follower : (c : tie.In-loop Inv-loop μ-loop) →
-    let s = start (c .before) .args in
-    let b = c .before .loop .b in
-    Follower (s .area .now) (s .n) (s .c) (b + 1) (getD (s .next .now) (129 * s .c + b + 1) 0)
-follower c = let s = start (c .before) in follower-next (s .pre .0 .follows) (s .args .c) (s .pre .1) (c .before .loop .b) (c .loop-test .taken)
+    Sweepable (s .states .now) (s .area .now) (s .weights .now) (s .next .now) (c .loop .mismatches) (c .loop .gathered) (c .loop .guesses) (s .pair .size) (c .loop .now)
+ready c = ready-on (start c .pre .0) (c .loop .inv .1)
 
 triplet : (c : tie.In-loop Inv-loop μ-loop) (t : Triplet) →
-    let s = start (c .before) .args in t ≡ inOrder (s .c) (s .a) (c .before .loop .b) → IsTriplet (s .area .now) (s .n) t
+    let s = start (c .before) .args in t ≡ inOrder (s .pair .c) (s .pair .a) (c .before .loop .b) → IsTriplet (s .area .now) (s .pair .size .types) t
 triplet c t is =
     let s = start (c .before) in
     let w = c .before .loop .inv .0 in
     let h = c .loop-test .taken in
-    rw is (met-triplet (s .args .c) (s .args .a) (c .before .loop .b) (s .pre .3) (w .linked h) (omega (arith, w .on)) h (s .pre .1))
+    rw is (met-triplet (s .args .pair .c) (s .args .pair .a) (c .before .loop .b) (s .pre .3) (w .linked h) (omega (arith, w .on)) h (s .pre .1))
 
 cast-b : tie.Need-cast-b Inv-loop μ-loop
-cast-b c = let s = c .before .before .before .before .before .before .before .before .before .args in omega (arith, c .shared-slice-known6 .given (129 * s .c + s .a + 1))
+cast-b c = let s = c .before .before .before .before .before .before .before .before .before .before .args in omega (arith, c .shared-slice-known6 .given (129 * s .pair .c + s .pair .a + 1))
 
 loop-holds : tie.Need-loop-holds Inv-loop μ-loop
 loop-holds c =
-    let s = c .before .before .before .before .before .before .before .before .before in
-    let ready = s .pre .0 in
-    let f = follower-next (ready .follows) (s .args .c) (s .pre .1) (s .args .a) (s .pre .2) in
-    (walk-first f, kept-none ready, first-none ready (s .args .c) (s .args .a) f, first-open ready (s .args .c) (s .args .a) f)
+    let s = c .before .before .before .before .before .before .before .before .before .before in
+    let p = s .pre in
+    (walk-first (follower-next (p .0) (p .1) (p .2)), first-none (p .0) (p .1) (p .2))
 
 outlook-requires : tie.Need-outlook-requires Inv-loop μ-loop
 outlook-requires c κs =
@@ -80,54 +69,46 @@ cast-b-2 : tie.Need-cast-b-2 Inv-loop μ-loop
 cast-b-2 c =
     let i = c .before .before in
     let s = start (i .before) .args in
-    omega (arith, c .shared-slice-known8 .given (129 * s .c + i .before .loop .b + 1))
+    omega (arith, c .shared-slice-known8 .given (129 * s .pair .c + i .before .loop .b + 1))
 
 loop-less : tie.Need-loop-less Inv-loop μ-loop
-loop-less c = let f = follower (c .before .before) in omega (arith, f .from, f .within)
+loop-less c =
+    let i = c .before .before in
+    let p = start (i .before) .pre in
+    walk-less (i .loop-test .taken) (follower-next (p .0) (p .1) (i .loop-test .taken))
 
 loop-again : tie.Need-loop-again Inv-loop μ-loop
 loop-again c =
     let i = c .before .before in
     let l = i .before .loop in
     let s = start (i .before) in
-    let first = s .pre .0 in
-    let f = follower i in
-    let stays = l .inv .2 .made-stays in (
+    let pair = s .args .pair in
+    let f = follower-next (s .pre .0) (s .pre .1) (i .loop-test .taken) in
+    let r = ready (i .before) in (
       walk-next (l .inv .0) f,
-      ⊎-elim
-          (λ w. rw (w .16, w .18) (kept-guesses (kept-mismatches stays (l .inv .1) (w .3 .ensures .1 .cached) (w .3 .ensures .2)) (w .11 .ensures .0)))
+      passed-more (s .pre .0) (l .inv .1) (λ made. Here (s .args .weights .now) (s .args .states .now) (s .args .area .now) (pair .size .types) made (pair .c) (pair .a) (l .b))
           (⊎-elim
-          (λ w. rw (w .9, w .11) (kept-mismatches stays (l .inv .1) (w .3 .ensures .1 .cached) (w .3 .ensures .2)))
-          (λ w. rw (w .3, w .5) (l .inv .1)))
-          (c .before .if1 .came),
-      ⊎-elim
-          (λ w. rw (w .17, w .19) (first-visited first (s .args .c) (s .args .a) f (l .inv .2) (w .1 .ensures) (triplet i _ (w .1 .ensures)) (w .11 .ensures .1)))
+          (λ w. rw (w .16, w .17, w .18, w .19, w .20, w .6 .ensures) (here-visited r (pair .c) (pair .a) (l .b) (w .1 .ensures) (triplet i _ (w .1 .ensures)) (w .3 .ensures .0) (w .3 .ensures .1) (w .3 .ensures .2) (w .11 .ensures .0) (w .11 .ensures .1)))
           (⊎-elim
-          (λ w. rw (w .10, w .12) (first-passed first (s .args .c) (s .args .a) f (l .inv .2) (w .1 .ensures) (triplet i _ (w .1 .ensures)) (w .3 .ensures .0) (w .8 .left)))
-          (λ w. rw (w .4, w .6) (first-skipped first (s .args .c) (s .args .a) f (l .inv .2) (w .0 .left) (mark-read (s .args .area .now) (s .args .a) (l .b) (omega (arith, l .inv .0 .on)) ∙ not-false _ (w .2 .left)))))
-          (c .before .if1 .came),
-      ⊎-elim
-          (λ w. rw (w .20, w .6 .ensures) (first-lowered first (s .args .c) (s .args .a) f (l .inv .2) (w .1 .ensures) (triplet i _ (w .1 .ensures)) (w .3 .ensures .0) (l .inv .3)))
-          (⊎-elim
-          (λ w. rw (w .13, w .6 .ensures) (first-lowered first (s .args .c) (s .args .a) f (l .inv .2) (w .1 .ensures) (triplet i _ (w .1 .ensures)) (w .3 .ensures .0) (l .inv .3)))
-          (λ w. rw (w .7) (first-kept first (s .args .c) (s .args .a) f (l .inv .2) (w .0 .left) (mark-read (s .args .area .now) (s .args .a) (l .b) (omega (arith, l .inv .0 .on)) ∙ not-false _ (w .2 .left)) (l .inv .3))))
-          (c .before .if1 .came),
+          (λ w. rw (w .9, w .10, w .11, w .12, w .13, w .6 .ensures) (here-dear r (pair .c) (pair .a) (l .b) (w .1 .ensures) (triplet i _ (w .1 .ensures)) (w .3 .ensures .0) (w .3 .ensures .1) (w .3 .ensures .2) (w .8 .left)))
+          (λ w. rw (w .3, w .4, w .5, w .6, w .7) (here-skipped r (pair .c) (pair .a) (l .b) (w .0 .left) (mark-read (s .args .area .now) (pair .a) (l .b) (omega (arith, l .inv .0 .on)) ∙ not-false _ (w .2 .left)))))
+          (c .before .if1 .came))
+          (λ x cost. which-second f),
     )
 
 same-length : tie.Need-same-length Inv-loop μ-loop
-same-length c = c .before .loop .inv .1 .mismatches-size
+same-length c = c .before .before .loop .inv .1 .kept .mismatches-size
 
 same-length-2 : tie.Need-same-length-2 Inv-loop μ-loop
-same-length-2 c = c .before .loop .inv .2 .size
+same-length-2 c = c .before .before .loop .inv .1 .swept .size
 
 same-length-3 : tie.Need-same-length-3 Inv-loop μ-loop
-same-length-3 c = c .before .loop .inv .1 .guesses-size ∙ sym (start (c .before) .pre .0 .guesses-size)
+same-length-3 c = c .before .before .loop .inv .1 .kept .guesses-size ∙ sym (start (c .before .before) .pre .0 .guesses-size)
 
 returns : tie.Need-returns Inv-loop μ-loop
 returns c =
-    let l = c .before .loop in
-    let e : l .b ≡ start (c .before) .args .n = omega (arith, l .inv .0 .within) in
-    (l .inv .1, rw e at (l .inv .2), rw e at (l .inv .3))
+    let l = c .before .before .loop in
+    rw (c .new .ensures) (rw (walk-done (l .inv .0) (c .before .loop-test .left)) at (l .inv .1))
 
 pub with-first-spec : {M : Type 1} → statement M
 with-first-spec =
@@ -158,6 +139,7 @@ with-first-spec =
     cast-b-2
     loop-less
     loop-again
+    (λ c κs. tt)
     same-length
     same-length-2
     same-length-3

@@ -8,7 +8,7 @@ choose-requires : tie.Need-choose-requires
 choose-requires c κs =
     let w = c .before .before .before .before .before in
     let s = w .before .before .before .before .before in
-    (s .pre, record { narrow = w .width-in-use .ensures; cached = none-cached (s .args .states .now) (w .width-in-use .result) (s .args .made) 16384 })
+    (s .pre .0, s .pre .1, record { narrow = w .width-in-use .ensures; cached = none-cached (s .args .states .now) (w .width-in-use .result) (s .args .made) 16384 })
 
 pub choose-with-mismatches-spec : {M : Type 1} → statement M
 choose-with-mismatches-spec =

@@ -8,7 +8,8 @@ use Rattle.round.proofs.fresh.choose_without_mismatches.Tie as tie
 choose-requires : tie.Need-choose-requires
 choose-requires c κs =
     let s = c .before .before .before .before .before .before in (
-      s .pre,
+      s .pre .0,
+      s .pre .1,
       record {
         narrow = record { at-most = omega arith; zeros = λ x h l. absurd (omega arith) };
         cached = none-cached (s .args .states .now) 64 (s .args .made) 1;
