@@ -17,7 +17,7 @@ loop-holds c = none-summed _ _ _ _
 loop-again : tie.Need-loop-again Inv-loop μ-loop
 loop-again c =
     let l = c .before .before .before .before .before in
-    rw (c .counted .ensures) (one-more _ _ _ _ (c .before .before .before .before .loop-test .taken) (l .loop .inv) (l .before .before .before .pre .0))
+    rw (c .counted .ensures) (one-more _ _ _ _ (omega arith) (l .loop .inv) (l .before .before .before .pre .0))
 
 add-sum : tie.Need-add-sum Inv-loop μ-loop
 add-sum c = omega (arith, loop-again c .small)
