@@ -12,7 +12,7 @@ use Rattle.rules.specs.Job.{Bytes, rows, width, weights, jobRows}
 use Rattle.rules.specs.Lent.{Lent}
 use Rattle.rules.specs.Types.{Node, InferredBy, inferred, rowCount, nodeAt, rowsOf, sampled}
 use Rattle.rules.specs.Links.{linkCount}
-use Rattle.rules.specs.Purge.{Run, linkLinesOf, purge}
+use Rattle.rules.specs.Purge.{Run, linksOf, purge}
 use Rattle.rules.specs.Run.{Network, phaseTwo}
 use Rattle.rules.specs.Call.{found, verdict}
 use Rattle.rules.specs.declared.Origin.{Origin}
@@ -59,7 +59,7 @@ module _ (job : Bytes) (run : Run) (sound : Sound (jobRows job) (width job) (pur
       back : sum (length later) (λ k. rowCount (nodeAt ts (length xs + k) .origin)) ≡ 0
       back = sum-zero (length later) _ (λ k h. rw (behind-is k) (inferred-round _ _ (behind k h) .1))
 
-  three : (k : ℕ) → k < length later → 3 ≤ linkCount (linkLinesOf (weights job) 0 (purge (weights job) 0 run)) (length xs + k)
+  three : (k : ℕ) → k < length later → 3 ≤ linkCount (linksOf (weights job) 0 (purge (weights job) 0 run)) (length xs + k)
   three k h =
       purge-links (weights job) 0 run (length xs + k) (omega (arith, length-ts)) (rw (behind-is k) (inferred-round _ _ (behind k h) .0))
 
