@@ -12,6 +12,9 @@ use rules::MOST_LINKS;
 use service::call_with;
 use text::text;
 
+// No area is longer.
+const LONGEST: usize = 60000;
+
 // The first bytes of the text of an answer, less than 256.
 fn print_answer<'a>(job: &'a [u8], result: &'a [u8], answer: Answer, shown: usize) {
     let mut out = [165u8; 172800];
@@ -19,31 +22,30 @@ fn print_answer<'a>(job: &'a [u8], result: &'a [u8], answer: Answer, shown: usiz
     io::write_all(libc::STDOUT_FILENO, &out[0..shown % 256]);
 }
 
-// Whether all bytes from a place on are zero.
-fn zero_bytes(bytes: &[u8], from: usize) -> bool {
-    for i in 0..bytes.len() {
-        if (from <= i) & (bytes[i] != 0) {
-            return false;
-        }
-    }
-    true
+// Whether a record of the table is there.
+fn holds(link: Link) -> bool {
+    (link.low != 0) | (link.high != 0) | (link.length != 0)
 }
 
-// Whether all numbers are zero.
-fn zero_words(words: &[u16]) -> bool {
-    for i in 0..words.len() {
-        if words[i] != 0 {
+// Whether the result is zero behind the bytes used, and the work memory throughout.
+fn all_zero(
+    result: &[u8],
+    used: usize,
+    states: &[u8],
+    distances: &[u16],
+    table: [Link; MOST_LINKS],
+) -> bool {
+    for i in 0..LONGEST {
+        if i < result.len() && (used <= i) & (result[i] != 0) {
             return false;
         }
-    }
-    true
-}
-
-// Whether no link is left in the table.
-fn empty(table: [Link; MOST_LINKS]) -> bool {
-    for i in 0..MOST_LINKS {
-        let link = table[i];
-        if (link.low != 0) | (link.high != 0) | (link.length != 0) {
+        if i < states.len() && states[i] != 0 {
+            return false;
+        }
+        if i < distances.len() && distances[i] != 0 {
+            return false;
+        }
+        if i < MOST_LINKS && holds(table[i]) {
             return false;
         }
     }
@@ -64,11 +66,7 @@ fn answer_over(
     let table = owned.table;
     print_answer(job, result, answer, shown);
     let told = tell(answer);
-    if zero_bytes(result, told.used)
-        & zero_bytes(states, 0)
-        & zero_words(distances)
-        & empty(table)
-    {
+    if all_zero(result, told.used, states, distances, table) {
         io::write_all(libc::STDOUT_FILENO, b"work memory and unused result zero\n");
     } else {
         io::write_all(libc::STDOUT_FILENO, b"something is left in the memory\n");
@@ -76,9 +74,9 @@ fn answer_over(
 }
 
 fn answer_twice(job: &[u8], shown: usize) {
-    let mut result = [165u8; 60000];
-    let mut states = [165u8; 60000];
-    let mut distances = [165u16; 60000];
+    let mut result = [165u8; LONGEST];
+    let mut states = [165u8; LONGEST];
+    let mut distances = [165u16; LONGEST];
     let dirt = Link {
         low: 165,
         high: 165,
@@ -92,9 +90,9 @@ fn answer_twice(job: &[u8], shown: usize) {
         &mut distances,
         [dirt; MOST_LINKS],
     );
-    result = [90u8; 60000];
-    states = [90u8; 60000];
-    distances = [90u16; 60000];
+    result = [90u8; LONGEST];
+    states = [90u8; LONGEST];
+    distances = [90u16; LONGEST];
     let dirt = Link {
         low: 90,
         high: 90,
@@ -137,8 +135,8 @@ fn bounds() {
 // A distance area that is one number short: check 1 refuses the job, and everything is cleared all the same.
 fn area_short(job: &[u8]) {
     io::write_all(libc::STDOUT_FILENO, b"distance area one short\n");
-    let mut result = [165u8; 60000];
-    let mut states = [165u8; 60000];
+    let mut result = [165u8; LONGEST];
+    let mut states = [165u8; LONGEST];
     let mut distances = [165u16; 16383];
     let dirt = Link {
         low: 165,
