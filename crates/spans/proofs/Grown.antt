@@ -16,7 +16,7 @@ use Rattle.graph.proofs.Growing.{span-sym}
 use Rattle.distances.specs.Area.{cellAt, CellsWritten, Line}
 use Rattle.distances.proofs.Area.{cell-kept}
 use Rattle.spans.specs.Tree.{between, Mirror, opposite, Spanned}
-use Rattle.spans.specs.Growth.{Full, Filled, nearer, Least, IsOutside, NearestFound, Grown, Completed}
+use Rattle.spans.specs.Growth.{Full, Filled, nearer, Least, IsOutside, NearestFound, TreeGrown, Completed}
 use Rattle.spans.proofs.Growing.{between-sym, Out, Listed, Reached, out-of, outside, some-left, none-left, listed-more, reached-more}
 use Rattle.spans.proofs.Lines.{Lines, lines-more}
 
@@ -89,7 +89,7 @@ growing-none {n} area before {inside = inside} few ho hs hi free past =
 
 -- All types are in the tree.
 pub growing-all : {n size v step : ℕ} {area before spans order steps near inside reach : List ℕ} →
-    Growing n size v step area before spans order steps near inside reach → n ≤ size → Grown n area before spans order steps
+    Growing n size v step area before spans order steps near inside reach → n ≤ size → TreeGrown n area before spans order steps
 growing-all {n} {size} {order = order} g l =
     let e : size ≡ n = omega (arith, g .to) in
     let listed = rw e at (g .listed) in
@@ -221,7 +221,7 @@ module _ {n : ℕ} {before area : List ℕ} (few : n ≤ 128) (w : CellsWritten 
       kept (suc k) = ap (passing n k) (kept k)
 
   -- The settled stretches are the spans, whichever of two types joined first.
-  pub spanned-all : {start grown after order steps : List ℕ} → Grown n area start grown order steps →
+  pub spanned-all : {start grown after order steps : List ℕ} → TreeGrown n area start grown order steps →
       Completed n order steps grown after → Spanned n before start after
   spanned-all {after = after} {order} g s = record {
     size = s .size ∙ g .size;

@@ -2,4 +2,4 @@ pub mod Turns
 pub mod Stretch
 pub mod Growing
 pub mod Lines
-pub mod Grown
+pub mod TreeGrown

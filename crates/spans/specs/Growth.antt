@@ -63,7 +63,7 @@ pub record Lined (n : ℕ) (order steps spans : List ℕ) : Type 0 where
   pub later : (i k : ℕ) → i < k → k < n → 65535 ≤ cellAt spans (getD order i 0) (getD order k 0)
 
 -- All of n types are in the tree, and their spans are their stretches.
-pub record Grown (n : ℕ) (area before spans order steps : List ℕ) : Type 0 where
+pub record TreeGrown (n : ℕ) (area before spans order steps : List ℕ) : Type 0 where
   pub size : length spans ≡ length before
   pub order-size : length order ≡ mostTypes
   pub steps-size : length steps ≡ mostTypes

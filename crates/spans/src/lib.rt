@@ -9,7 +9,7 @@ ghost use lib.ListN.{length, getD};
 ghost use Rattle.rules.specs.Sizes.{mostTypes, lineSize, distanceArea};
 ghost use Rattle.distances.specs.Area.{cellAt, CellsWritten, Line};
 ghost use Rattle.spans.specs.Tree.{between, mirrored, Mirror, opposite, Spanned};
-ghost use Rattle.spans.specs.Growth.{LinePart, Full, Filled, nearer, Least, OutsideAt, NearestFound, Lined, Grown, Completed};
+ghost use Rattle.spans.specs.Growth.{LinePart, Full, Filled, nearer, Least, OutsideAt, NearestFound, Lined, TreeGrown, Completed};
 use rules::LINE;
 use rules::MOST_TYPES;
 
@@ -170,7 +170,7 @@ fn settle_line(spans: &mut [u16], wide: usize, reach: &mut [u16], v: usize, step
 fn grow_tree(area: &[u16], spans: &mut [u16], n: usize, order: &mut [usize], steps: &mut [u16])
     requires { ⌜ (n ≤ mostTypes) × (length (now order) ≡ mostTypes) × (length (now steps) ≡ mostTypes) × Full n (now area)
         × (distanceArea ≤ length (now area)) × (lineSize * n ≤ length (now spans)) ⌝ }
-    ensures { λ _. ⌜ Grown n (now (area .entry)) (now (spans .entry)) (now (spans .exit)) (now (order .exit)) (now (steps .exit)) ⌝ }
+    ensures { λ _. ⌜ TreeGrown n (now (area .entry)) (now (spans .entry)) (now (spans .exit)) (now (order .exit)) (now (steps .exit)) ⌝ }
 {
     let wide = lanes(n);
     let mut near = [65535u16; MOST_TYPES];

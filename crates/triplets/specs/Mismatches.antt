@@ -8,14 +8,14 @@ use lib.Dec.{eqb}
 use lib.ListN.{length, getD}
 use Rattle.rules.specs.Sizes.{mostWidth, mostTypes, rowSize, lineSize}
 use Rattle.rules.specs.Job.{Bytes}
-use Rattle.memory.specs.Digits.{digits}
+use Rattle.memory.specs.Digits.{fromDigits}
 
 -- One bit, and a number with a bit for each test: the lowest bit tells of character c, and so on, for n characters.
 abbrev pub bit : Bool → ℕ
 bit t = cond t 1 0
 
 abbrev pub bitsOf : (ℕ → Bool) → ℕ → ℕ → ℕ
-bitsOf p = digits 2 (λ c. bit (p c))
+bitsOf p = fromDigits 2 (λ c. bit (p c))
 
 -- Rows i and j differ in character c; their mismatches.
 abbrev pub differ : Bytes → ℕ → ℕ → ℕ → Bool

@@ -4,7 +4,7 @@ use Prim.Native.Nat.{_-_, _≤_, _<_}
 use native.Mathlib.Omega.{arith}
 use lib.ListN.{length-set}
 use borrow.Author.Needs.{needs}
-use Rattle.spans.proofs.Grown.{Growing, growing-none, growing-more, growing-all}
+use Rattle.spans.proofs.TreeGrown.{Growing, growing-none, growing-more, growing-all}
 use Rattle.spans.proofs.grow_tree.Statement.{statement}
 use Rattle.spans.proofs.grow_tree.Tie as tie
 

@@ -1,7 +1,7 @@
 -- `spans::spans` meets its contract: distances to the mirror cells, the tree, and then the spans with later types.
 use native.Mathlib.Omega.{arith}
 use borrow.Author.Needs.{needs}
-use Rattle.spans.proofs.Grown.{full-mirrored, spanned-all}
+use Rattle.spans.proofs.TreeGrown.{full-mirrored, spanned-all}
 use Rattle.spans.proofs.spans.Statement.{statement}
 use Rattle.spans.proofs.spans.Tie as tie
 

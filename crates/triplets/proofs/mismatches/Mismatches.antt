@@ -5,7 +5,7 @@ use Prim.Native.Nat.{ℕ, zero, suc, _+_, _*_, _-_, _≤_, _<_, min}
 use native.Mathlib.Omega.{arith}
 use lib.Bits.{bitAnd, and-step}
 use lib.Pow.{pow-mono}
-use Rattle.memory.specs.Digits.{digits}
+use Rattle.memory.specs.Digits.{fromDigits}
 use Rattle.memory.proofs.Digits.{lowest, others, digits-ext, digits-same, Spelt, one-fits}
 use Rattle.triplets.specs.Mismatches.{bit, bitsOf}
 
@@ -33,7 +33,7 @@ bit-same false false e = refl
 
 -- No bit is set.
 pub bits-none : (n c : ℕ) → bitsOf (λ i. false) n c ≡ 0
-unfolding digits
+unfolding fromDigits
 bits-none zero c = refl
 bits-none (suc n) c = rw (bits-none n (suc c))
 
@@ -46,7 +46,7 @@ word-same p q n c e i l h = bit-same (p i) (q i) (digits-same (λ k. bit-small (
 
 -- Both tests.
 pub word-and : (p q : ℕ → Bool) (n c : ℕ) → bitAnd (bitsOf p n c) (bitsOf q n c) ≡ bitsOf (λ i. p i && q i) n c
-unfolding digits
+unfolding fromDigits
 word-and p q zero c = refl
 word-and p q (suc n) c =
     and-step (bitsOf p (suc n) c) (bitsOf q (suc n) c)
@@ -56,7 +56,7 @@ word-and p q (suc n) c =
 
 -- One test and not the other.
 pub word-parts : (p q : ℕ → Bool) (n c : ℕ) → bitsOf (λ i. p i && q i) n c + bitsOf (λ i. p i && not (q i)) n c ≡ bitsOf p n c
-unfolding digits
+unfolding fromDigits
 word-parts p q zero c = refl
 word-parts p q (suc n) c = omega (arith, word-parts p q n (suc c), bit-parts (p c) (q c))
 
