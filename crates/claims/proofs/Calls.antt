@@ -9,15 +9,12 @@ use lib.Seq.{getD-append-add}
 use Rattle.rules.specs.Answers.{number, used}
 use Rattle.rules.specs.Job.{Bytes, width}
 use Rattle.rules.specs.Lent.{Lent}
-use Rattle.rules.specs.Call.{Verdict, refused, found, verdict, written, answer, padded, resultAfter, linksAfter}
-use Rattle.rules.specs.Text.{printed}
+use Rattle.rules.specs.Call.{Verdict, refused, found, verdict, written, answer, resultAfter, linksAfter}
 use Rattle.rules.specs.declared.Answer.{Answer}
 use Rattle.rules.specs.declared.Answer.the-variants.{Done, Area, Head, Rows, Width, Layout, Weight, State, Types, Room, Split}
 use Rattle.readback.specs.ReadBack.{readBack}
 use Rattle.readback.proofs.Found.{answered, verdict-numbered}
 use Rattle.readback.proofs.Result.{read-result}
-use Rattle.text.specs.Printed.{printedBytes}
-use Rattle.text.specs.declared.Printed.{Printed}
 use Rattle.network.proofs.Left.{zero-at}
 use Rattle.claims.specs.Drawing.{Drawing}
 use Rattle.claims.specs.Calls.{Memory, SameLengths, lengthsOf, Calls}

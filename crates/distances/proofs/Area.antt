@@ -62,14 +62,14 @@ abbrev pub byColumn : ℕ → ℕ → ℕ
 byColumn i j = j
 
 -- A turn from k to m writes the part that is passed between them.
-pub record Turn (by : ℕ → ℕ → ℕ) (asked part : Asked) (k m : ℕ) : Type 0 where
+pub record Stride (by : ℕ → ℕ → ℕ) (asked part : Asked) (k m : ℕ) : Type 0 where
   pub narrow : Narrow asked
   pub on : k ≤ m
   pub part-is : (i j : ℕ) → part i j ↔ (asked i j × (k ≤ by i j) × (by i j < m))
 
 -- What is written at the next turn, and once all are passed. None are passed at first, which is plain arithmetic.
 module _ {by : ℕ → ℕ → ℕ} {asked : Asked} {f : ℕ → ℕ → ℕ} {before area : List ℕ} {k : ℕ} (w : CellsWritten (Passed by asked k) f before area) where
-  pub part-passed : {part : Asked} {g : ℕ → ℕ → ℕ} {after : List ℕ} {m : ℕ} → Turn by asked part k m → CellsWritten part g area after →
+  pub part-passed : {part : Asked} {g : ℕ → ℕ → ℕ} {after : List ℕ} {m : ℕ} → Stride by asked part k m → CellsWritten part g area after →
       ((i j : ℕ) → part i j → g i j ≡ f i j) → CellsWritten (Passed by asked m) f before after
   part-passed turn x same = record {
     size = x .size ∙ w .size;
@@ -82,7 +82,7 @@ module _ {by : ℕ → ℕ → ℕ} {asked : Asked} {f : ℕ → ℕ → ℕ} {b
         ∙ w .kept p (λ i j t. other i j (record { is = t .is; below = omega (arith, t .below, turn .on) }));
   }
 
-  pub cell-passed : {i j v : ℕ} → Turn by asked (Cell i j) k (k + 1) → 128 * i + j < length before → v ≡ f i j →
+  pub cell-passed : {i j v : ℕ} → Stride by asked (Cell i j) k (k + 1) → 128 * i + j < length before → v ≡ f i j →
       CellsWritten (Passed by asked (k + 1)) f before (set area (128 * i + j) v)
   cell-passed {i} {j} {v} turn h e =
       part-passed turn (written-one {f = f} area i j v (omega (arith, w .size)) e) (λ a b t. refl)

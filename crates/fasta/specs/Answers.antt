@@ -1,5 +1,5 @@
 -- RULES 18.6: what the answer to a FASTA text says.
-use mathlib.Core.Bool.{Bool, true, false, not}
+use mathlib.Core.Bool.{Bool, not}
 use Prim.Native.Nat.{ℕ}
 use lib.Dec.{eqb}
 use Rattle.answers.specs.Told.{Tells}

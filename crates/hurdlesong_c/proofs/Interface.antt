@@ -1,5 +1,5 @@
 -- What is told of a call and of a text is what the rooms below say, and a text by number and place is the text of the answer that they are told of.
-use mathlib.Core.Path.{_≡_, refl, sym, _∙_}
+use mathlib.Core.Path.{_≡_, refl, _∙_}
 use mathlib.Core.Logic.{_≢_}
 use mathlib.Core.List.{List}
 use Prim.Native.Nat.{ℕ}

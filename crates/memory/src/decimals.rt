@@ -1,6 +1,7 @@
 // The corner of decimals: a text and a number in decimals, one behind the other, in memory that is lent. Leaf code that knows nothing of
 // networks.
 
+ghost use mathlib.Core.List.{_++_};
 ghost use Prim.Native.Nat.{_+_, _≤_};
 ghost use lib.ListN.{length};
 ghost use Rattle.rules.specs.Text.{decimal};
@@ -31,4 +32,13 @@ pub fn put_decimal(out: &mut [u8], at: usize, x: usize) -> usize
     }
     digits[first] = (48 + left) as u8;
     put(out, at, &digits[first..])
+}
+
+// A text and a number behind it.
+pub fn say(out: &mut [u8], at: usize, s: &[u8], x: usize) -> usize
+    requires { ⌜ at + length (now s ++ decimal x) ≤ length (now out) ⌝ }
+    ensures { λ r. ⌜ Follows (now (out .entry)) at (now (s .entry) ++ decimal x) (now (out .exit)) r ⌝ }
+{
+    let at = put(out, at, s);
+    put_decimal(out, at, x)
 }

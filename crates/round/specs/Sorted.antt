@@ -1,8 +1,7 @@
 -- Rows sorted by their bytes, by putting one after the other into its place.
 use mathlib.Core.Bool.{Bool, true, false, cond, not}
 use mathlib.Core.List.{List, [], _∷_, _++_}
-use Prim.Native.Nat.{ℕ, zero, suc, _*_, _-_, Ordering·lt, Ordering·eq, Ordering·gt}
-use lib.ListN.{take, drop}
+use Prim.Native.Nat.{ℕ, zero, suc, _*_, Ordering·lt, Ordering·eq, Ordering·gt}
 use Rattle.graph.specs.Below.{first}
 use Rattle.rules.specs.Sizes.{rowSize}
 use Rattle.rules.specs.Job.{Bytes, Row}

@@ -3,9 +3,11 @@
 
 ghost use mathlib.Core.Path.{_≡_};
 ghost use Prim.Native.Nat.{_≤_};
-ghost use lib.ListN.{length};
+ghost use lib.ListN.{length, replicate};
+ghost use Rattle.rules.specs.Sizes.{mostTypes, stateArea};
 ghost use Rattle.medians.specs.Guesses.{guessesSize};
-ghost use Rattle.sweep.specs.Candidate.{Remembered, TablesKept};
+ghost use Rattle.medians.specs.Search.{forLambda};
+ghost use Rattle.sweep.specs.Candidate.{Remembered};
 ghost use Rattle.round.specs.Fresh.{withRows, NoneFits, Choosing, LambdaSought, Fresh};
 use crate::ascending::ascending;
 use medians::guesses::guess_all;
@@ -47,45 +49,26 @@ fn with_rows(rows: [u8; STATE_AREA], count: usize) -> Added
     }
 }
 
-// The first sweep: it comes to lambda, if there is a candidate. Of the floors nothing is known at first.
-fn find_lambda(
-    states: &[u8],
-    area: &[u16],
-    weights: &[u16],
-    next: &[u16],
-    mismatches: &mut [u64],
-    hints: &[u64],
-    guesses: &mut [u16],
-    size: Size,
-    made: usize,
-) -> Survey
-    requires { ⌜ Choosing (now states) (now area) (now weights) (now next) (size .types) made × Remembered (now states) (now mismatches) (size .width) made
-        × (length (now guesses) ≡ guessesSize) ⌝ }
-    ensures { λ r. ⌜ (r .size ≡ size) × (r .search .made ≡ made) × LambdaSought (now (weights .entry)) (now (states .entry)) (now (area .entry)) r
-        × TablesKept (now (states .entry)) (size .width) made (now (mismatches .entry)) (now (mismatches .exit)) (now (guesses .exit)) ⌝ }
+// A second sweep is within a window: what the first one came to, and epsilon.
+struct Window {
+    least: Survey,
+    epsilon: usize,
+}
+
+// Before the first sweep: lambda is looked for, and of the floors nothing is known.
+fn seeking(size: Size, made: usize) -> Survey
+    ensures { λ r. ⌜ (r .size ≡ size) × (r .search ≡ forLambda made) × (r .floors ≡ replicate mostTypes 0) ⌝ }
 {
     let search = Search::for_lambda(made);
     let floors = [0usize; MOST_TYPES];
-    let first = Survey {
+    Survey {
         size,
         search,
         floors,
-    };
-    let mut rows = [0u8; STATE_AREA];
-    sweep(
-        states,
-        area,
-        weights,
-        next,
-        mismatches,
-        hints,
-        &mut rows,
-        guesses,
-        first,
-    )
+    }
 }
 
-// The second sweep: all candidates of a cost of at most lambda and epsilon.
+// The second sweep: all candidates of a cost of at most lambda and epsilon, in memory that is zero.
 fn gather_window(
     states: &[u8],
     area: &[u16],
@@ -93,20 +76,22 @@ fn gather_window(
     next: &[u16],
     mismatches: &mut [u64],
     hints: &[u64],
+    rows: [u8; STATE_AREA],
     guesses: &mut [u16],
-    least: Survey,
-    epsilon: usize,
+    window: Window,
 ) -> Added
-    requires { ⌜ Choosing (now states) (now area) (now weights) (now next) (least .size .types) (least .search .made) × (epsilon ≤ 65535)
-        × Remembered (now states) (now mismatches) (least .size .width) (least .search .made) × (length (now guesses) ≡ guessesSize) × LambdaSought (now weights) (now states) (now area) least ⌝ }
-    ensures { λ r. ⌜ Fresh (now (weights .entry)) (now (states .entry)) (now (area .entry)) (least .size .types) (least .search .made) epsilon r ⌝ }
+    requires { ⌜ Choosing (now states) (now area) (now weights) (now next) (window .least .size .types) (window .least .search .made) × (window .epsilon ≤ 65535)
+        × Remembered (now states) (now mismatches) (window .least .size .width) (window .least .search .made) × (length (now guesses) ≡ guessesSize)
+        × LambdaSought (now weights) (now states) (now area) (window .least) × (rows ≡ replicate stateArea 0) ⌝ }
+    ensures { λ r. ⌜ Fresh (now (weights .entry)) (now (states .entry)) (now (area .entry)) (window .least .size .types) (window .least .search .made) (window .epsilon) r ⌝ }
 {
-    let mut rows = [0u8; STATE_AREA];
+    let mut rows = rows;
+    let least = window.least;
     let lambda = least.search.below;
     if lambda == ABOVE_ALL_COSTS {
         return with_rows(rows, 0);
     }
-    let window = Search::for_all(least.search.made, lambda + epsilon + 1);
+    let search = Search::for_all(least.search.made, lambda + window.epsilon + 1);
     let all = sweep(
         states,
         area,
@@ -116,7 +101,7 @@ fn gather_window(
         hints,
         &mut rows,
         guesses,
-        least.again(window),
+        least.again(search),
     );
     if all.search.full {
         return none_fits();
@@ -138,21 +123,21 @@ pub fn choose(
     made: usize,
     epsilon: usize,
 ) -> Added
-    requires { ⌜ Choosing (now states) (now area) (now weights) (now next) (size .types) made × (epsilon ≤ 65535)
-        × Remembered (now states) (now mismatches) (size .width) made ⌝ }
+    requires { ⌜ Choosing (now states) (now area) (now weights) (now next) (size .types) made × (epsilon ≤ 65535) × Remembered (now states) (now mismatches) (size .width) made ⌝ }
     ensures { λ r. ⌜ Fresh (now (weights .entry)) (now (states .entry)) (now (area .entry)) (size .types) made epsilon r ⌝ }
 {
     let mut guesses = guess_all(states, made);
-    let least = find_lambda(
+    let mut rows = [0u8; STATE_AREA];
+    let least = sweep(
         states,
         area,
         weights,
         next,
         mismatches,
         hints,
+        &mut rows,
         &mut guesses,
-        size,
-        made,
+        seeking(size, made),
     );
     gather_window(
         states,
@@ -161,8 +146,8 @@ pub fn choose(
         next,
         mismatches,
         hints,
+        rows,
         &mut guesses,
-        least,
-        epsilon,
+        Window { least, epsilon },
     )
 }

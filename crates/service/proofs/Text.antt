@@ -2,7 +2,7 @@
 use mathlib.Core.Path.{_≡_, refl, sym, ap, ap₂, _∙_}
 use mathlib.Core.Logic.{_≢_}
 use mathlib.Core.Bool.{Bool, true, false, cond, not, _&&_}
-use mathlib.Core.List.{List, []}
+use mathlib.Core.List.{[]}
 use Prim.Native.Nat.{ℕ, _+_, _*_, _≤_}
 use native.Mathlib.Omega.{arith}
 use lib.Dec.{ltb, eqb}
@@ -15,7 +15,6 @@ use Rattle.rules.specs.Run.{Network}
 use Rattle.rules.specs.Call.{Verdict, refused, found, verdict, answer, padded, resultAfter}
 use Rattle.rules.specs.Text.{printed}
 use Rattle.rules.specs.declared.Answer.{Answer}
-use Rattle.rules.specs.declared.Link.{Link}
 use Rattle.readback.proofs.Found.{answered, found-is, verdict-numbered}
 use Rattle.readback.proofs.Result.{few-links, read-result, header-matches, links-counted, links-reach}
 use Rattle.text.specs.Lines.{legible}
@@ -23,7 +22,6 @@ use Rattle.text.specs.Printed.{printedUsed, textRoom, textOf, briefRoom, printe
 use Rattle.text.specs.declared.Printed.{Printed}
 use Rattle.text.specs.declared.Printed.the-variants.{Done, Short}
 use Rattle.text.proofs.Room.{every-suffices}
-use Rattle.network.specs.Called.{lentBy, Called}
 use Rattle.service.specs.Served.{AnsweredJob, printedIn, shown, Shown, TextOnly}
 
 module _ (lent : Lent) (job : Bytes) where

@@ -10,7 +10,7 @@ use lib.ListN.{length, getD, set, length-set}
 use lib.Seq.{getD-set-same, getD-set-other}
 use borrow.Author.Count.{below-more}
 use Rattle.distances.specs.Area.{cellAt, CellsWritten, Line}
-use Rattle.distances.proofs.Area.{Asked, Passed, byColumn, Turn, cell-kept, part-passed, cell-passed, all-passed}
+use Rattle.distances.proofs.Area.{Asked, Passed, byColumn, Stride, cell-kept, part-passed, cell-passed, all-passed}
 use Rattle.spans.specs.Tree.{opposite}
 use Rattle.spans.specs.Growth.{Filled, Least, OutsideAt, NearestFound}
 
@@ -55,7 +55,7 @@ found-more {k = k} {r} {p} f =
 
 -- A part of the mirror cells more: what stands opposite to it has not changed, since that is no mirror cell.
 pub mirror-passed : {by : ℕ → ℕ → ℕ} {asked part : Asked} {k m : ℕ} {before mid after : List ℕ} →
-    CellsWritten (Passed by asked k) (opposite before) before mid → Turn by asked part k m →
+    CellsWritten (Passed by asked k) (opposite before) before mid → Stride by asked part k m →
     ((i j : ℕ) → part i j → (i < 128) × ¬ Passed by asked k j i) → CellsWritten part (opposite mid) mid after →
     CellsWritten (Passed by asked m) (opposite before) before after
 mirror-passed w turn free x =

@@ -10,6 +10,8 @@ ghost use Rattle.memory.specs.Placed.{Follows};
 ghost use Rattle.text.specs.Lines.{Legible, networkLineOf, typeLineOf, typeLinesOf, linkLineOf, linkLinesOf};
 use crate::template::fill;
 use lookup::states_in;
+use memory::decimals::put;
+use memory::decimals::say;
 use memory::word_at;
 use rules::LINK_SIZE;
 use rules::RECORD_SIZE;
@@ -64,17 +66,15 @@ pub fn put_type_lines<'a>(job: &'a [u8], block: &'a [u8], out: &mut [u8], at: us
     at
 }
 
-// The line of a link: lower, higher, length.
+// The line of a link: lower, higher, length. It is written part by part, since most lines are links, and marks take longer.
 fn put_link_line(block: &[u8], from: usize, out: &mut [u8], at: usize) -> usize
     requires { ⌜ (from + linkSize ≤ length (now block)) × (at + length (linkLineOf (now block) from) ≤ length (now out)) ⌝ }
     ensures { λ r. ⌜ Follows (now (out .entry)) at (linkLineOf (now (block .entry)) from) (now (out .exit)) r ⌝ }
 {
-    let numbers = [
-        word_at(block, from),
-        word_at(block, from + 2),
-        word_at(block, from + 4),
-    ];
-    fill(out, at, b"L \x00 \x01 \x02\n", &numbers, b"")
+    let at = say(out, at, b"L ", word_at(block, from));
+    let at = say(out, at, b" ", word_at(block, from + 2));
+    let at = say(out, at, b" ", word_at(block, from + 4));
+    put(out, at, b"\n")
 }
 
 pub fn put_link_lines(block: &[u8], out: &mut [u8], at: usize) -> usize

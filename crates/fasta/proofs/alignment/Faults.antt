@@ -1,5 +1,5 @@
 -- Which fault a byte is, and what is known of a text up to a byte where there is none.
-use mathlib.Core.Path.{_≡_, refl, sym, _∙_}
+use mathlib.Core.Path.{_≡_, refl, sym}
 use mathlib.Core.Bool.{Bool, true, false, cond, _&&_, and-eq-true-iff, true≢false}
 use mathlib.Core.List.{_++_}
 use Prim.Native.Nat.{ℕ, zero, suc, _+_, _-_, _≤_, _<_}
@@ -9,13 +9,11 @@ use lib.ListN.{length, length-append}
 use borrow.Author.Tests.{lt-ltb, le-ltb, eq-eqb, ne-eqb, ltb-false, eqb-true}
 use Rattle.graph.specs.Below.{gather, only, sum}
 use Rattle.graph.proofs.Below.{In, in-gather, in-only, sum-more, first-before, first-hits}
-use Rattle.rules.specs.Answers.{when_refuse_else_}
 use Rattle.rules.specs.Job.{Bytes, outside}
 use Rattle.rules.proofs.Job.{Within, within}
 use Rattle.fasta.specs.Lines.{byteAt, opens, isState}
 use Rattle.fasta.proofs.lines.Lines.{no-opener}
 use Rattle.fasta.specs.Answers.{refuses, noFault}
-use Rattle.fasta.specs.declared.conversion.Conversion.{Conversion}
 use Rattle.fasta.specs.declared.conversion.Conversion.the-variants.{Before, Byte, Wide, Many}
 use Rattle.fasta.proofs.conversion.Answers.{not-no-size}
 use Rattle.fasta.specs.Sequences.{opened, inSequence, joined}

@@ -1,6 +1,6 @@
 -- Laws of what is written: records and rows, each behind the one before, and how long they are together.
 use mathlib.Core.Path.{_≡_}
-use mathlib.Core.List.{List, [], _∷_}
+use mathlib.Core.List.{List}
 use Prim.Native.Nat.{ℕ, suc, _+_, _*_, _-_, _≤_, _<_}
 use native.Mathlib.Nat.{suc-mul, sub-self, mul-le-mul-right}
 use native.Mathlib.Omega.{arith}

@@ -24,11 +24,12 @@ use Rattle.round.proofs.ascending.Inserted.{length-laid-sorted}
 use Rattle.medians.specs.Search.{forLambda, forAll}
 use Rattle.medians.specs.declared.search.Search.{Search}
 use Rattle.medians.specs.Swept.{Gathered, Swept}
+use Rattle.sweep.specs.declared.Size.{Size}
 use Rattle.sweep.specs.declared.Survey.{Survey}
-use Rattle.sweep.specs.Candidate.{Candidate, Faithful, Everywhere}
+use Rattle.sweep.specs.Candidate.{Candidate, Faithful, Everywhere, Remembered}
 use Rattle.sweep.specs.Floors.{Surveyed}
 use Rattle.round.specs.declared.candidates.Added.{Added}
-use Rattle.round.specs.Fresh.{withRows, LambdaSought, InWindow, All, TooMany, Fresh, NoneFits}
+use Rattle.round.specs.Fresh.{withRows, Choosing, LambdaSought, InWindow, All, TooMany, Fresh, NoneFits}
 use Rattle.sweep.proofs.Dropped.{gives-small}
 use Rattle.sweep.proofs.Seated.{candidate-met}
 
@@ -88,6 +89,23 @@ lambda-sought {ws} {states} {area} {v} {v′} made e is =
           ⊎-elim (λ l. l) (λ d. absurd (omega (arith, first .count-stays seeking, d .1))) (first .deals x cost met);
       floors = rw (e .size-stays, first .made-stays) (e .floors);
     }
+
+-- What is said of a size and of the rows made holds of others that are equal.
+module _ {size size′ : Size} {made made′ : ℕ} (s : size ≡ size′) (m : made ≡ made′) where
+  pub choosing-as : {states : Bytes} {area ws next : List ℕ} → Choosing states area ws next (size .types) made → Choosing states area ws next (size′ .types) made′
+  choosing-as c = rw (← s, ← m) c
+
+  pub remembered-as : {states : Bytes} {mismatches : List ℕ} → Remembered states mismatches (size .width) made → Remembered states mismatches (size′ .width) made′
+  remembered-as c = rw (← s, ← m) c
+
+  pub fresh-as : {ws : List ℕ} {states : Bytes} {area : List ℕ} {e : ℕ} {r : Added} → Fresh ws states area (size .types) made e r →
+      Fresh ws states area (size′ .types) made′ e r
+  fresh-as c = rw (← s, ← m) c
+
+-- It leaves the memory for rows as it was.
+pub lambda-rows : {asked given : Bytes → ℕ → Type 0} {rows rows′ : Bytes} {s s′ : Search} → Swept asked given rows s rows′ s′ → s .gathering ≡ false →
+    s .count ≡ 0 → rows′ ≡ rows
+lambda-rows w seeking none = ext-getD 0 _ _ (w .size) (λ p h. w .rest-stays p (omega (arith, w .count-stays seeking)))
 
 module _ {ws : List ℕ} {states : Bytes} {area : List ℕ} {v : Survey} (sought : LambdaSought ws states area v) where
   abbrev n : ℕ

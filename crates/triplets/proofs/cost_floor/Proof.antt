@@ -1,5 +1,4 @@
 -- `triplets::cost_floor` meets its contract: by the first test that finds a type between the other two, or none.
-use mathlib.Core.Path.{_≡_, refl}
 use Prim.Native.Nat.{_+_, _*_, _≤_}
 use native.Mathlib.Omega.{arith}
 use borrow.Author.Needs.{needs}

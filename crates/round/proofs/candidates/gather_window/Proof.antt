@@ -14,31 +14,31 @@ use Rattle.round.proofs.candidates.gather_window.Tie as tie
 -- The function's start, that there is a candidate, and what the sweep came to.
 module _ (c : tie.After-sweep) where
   abbrev start : tie.Start
-  start = c .before .before .before .before .before .before .before .before .before .before .before .before .before .before
+  start = c .before .before .before .before .before .before .before .before .before .before .before .before .before .before .before .before
 
-  lower : start .args .least .search .below ≢ 128001
-  lower = c .before .before .before .before .before .before .if1 .left
+  lower : start .args .window .least .search .below ≢ 128001
+  lower = c .before .before .before .before .before .before .before .if1 .left
 
   swept :
       let a = start .args in
-      let v = a .least in
+      let v = a .window .least in
       Swept (Everywhere (a .weights .now) (a .states .now) (a .area .now) (v .size .types) (v .search .made) (v .size .types))
       (Candidate (a .weights .now) (a .states .now) (a .area .now) (v .size .types) (v .search .made)) (replicate 8192 0)
-      (forAll (v .search .made) (v .search .below + a .epsilon + 1)) (c .sweep .last .1 .1 .1 .1 .1 .1 .0) (c .sweep .result .search)
+      (forAll (v .search .made) (v .search .below + a .window .epsilon + 1)) (c .sweep .last .1 .1 .1 .1 .1 .1 .0) (c .sweep .result .search)
   swept =
       let e = c .before .again .ensures in
-      rw (e .0, e .1, c .before .before .before .before .before .for-all .ensures) at (c .sweep .ensures .swept)
+      rw (e .0, e .1, c .before .before .before .before .before .for-all .ensures, start .pre .5) at (c .sweep .ensures .swept)
 
 returns : tie.Need-returns
 returns c =
-    let s = c .before .before .before .before .before .before .before .before .before in
+    let s = c .before .before .before .before .before .before .before .before .before .before in
     let p = s .pre in
-    rw (c .with-rows .ensures)
-    (fresh-none (p .4) (s .args .epsilon) (p .0 .weighed) (p .0 .current) (p .0 .few) (p .0 .lie) (c .before .if1 .taken))
+    rw (c .with-rows .ensures, p .5)
+    (fresh-none (p .4) (s .args .window .epsilon) (p .0 .weighed) (p .0 .current) (p .0 .few) (p .0 .lie) (c .before .if1 .taken))
 
 sweep-requires : tie.Need-sweep-requires
 sweep-requires c κs =
-    let p = c .before .before .before .before .before .before .before .before .before .before .before .before .before .pre in
+    let p = c .before .before .before .before .before .before .before .before .before .before .before .before .before .before .before .pre in
     let e = c .again .ensures in
     rw (e .0, e .1, e .2, c .before .before .before .before .for-all .ensures) (
       record {
@@ -49,7 +49,7 @@ sweep-requires c κs =
         room = omega (arith, p .0 .few);
         lie = p .0 .lie;
         cells = p .0 .cells;
-        gathered-size = simp length-replicate;
+        gathered-size = rw (p .5) (simp length-replicate);
         guesses-size = p .3;
         low = omega (arith, p .1, p .4 .no-higher);
       },
@@ -60,13 +60,13 @@ returns-2 : tie.Need-returns-2
 returns-2 c =
     let s = c .before .before .before .before .before .before .before in
     let p = start s .pre in
-    fresh-full (p .4) (start s .args .epsilon) (lower s) (swept s) (p .0 .few) (c .before .if2 .taken) (c .none-fits .ensures)
+    fresh-full (p .4) (start s .args .window .epsilon) (lower s) (swept s) (p .0 .few) (c .before .if2 .taken) (c .none-fits .ensures)
 
 returns-3 : tie.Need-returns-3
 returns-3 c =
     let s = c .before .before .before .before .before .before .before .before .before .before in
     rw (c .with-rows2 .ensures)
-    (fresh-all (start s .pre .4) (start s .args .epsilon) (lower s) (swept s) (c .before .before .before .before .if2 .left) (c .before .before .ascending .ensures))
+    (fresh-all (start s .pre .4) (start s .args .window .epsilon) (lower s) (swept s) (c .before .before .before .before .if2 .left) (c .before .before .ascending .ensures))
 
 pub gather-window-spec : {M : Type 1} → statement M
 gather-window-spec =
