@@ -81,8 +81,7 @@ fn gather_window(
     window: Window,
 ) -> Added
     requires { ⌜ Choosing (now states) (now area) (now weights) (now next) (window .least .size .types) (window .least .search .made) × (window .epsilon ≤ 65535)
-        × Remembered (now states) (now mismatches) (window .least .size .width) (window .least .search .made) × (length (now guesses) ≡ guessesSize)
-        × LambdaSought (now weights) (now states) (now area) (window .least) × (rows ≡ replicate stateArea 0) ⌝ }
+        × Remembered (now states) (now mismatches) (window .least .size .width) (window .least .search .made) × (length (now guesses) ≡ guessesSize) × LambdaSought (now weights) (now states) (now area) (window .least) × (rows ≡ replicate stateArea 0) ⌝ }
     ensures { λ r. ⌜ Fresh (now (weights .entry)) (now (states .entry)) (now (area .entry)) (window .least .size .types) (window .least .search .made) (window .epsilon) r ⌝ }
 {
     let mut rows = rows;
