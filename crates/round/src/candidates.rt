@@ -76,7 +76,7 @@ fn gather_window(
     next: &[u16],
     mismatches: &mut [u64],
     hints: &[u64],
-    rows: [u8; STATE_AREA],
+    mut rows: [u8; STATE_AREA],
     guesses: &mut [u16],
     window: Window,
 ) -> Added
@@ -84,7 +84,6 @@ fn gather_window(
         × Remembered (now states) (now mismatches) (window .least .size .width) (window .least .search .made) × (length (now guesses) ≡ guessesSize) × LambdaSought (now weights) (now states) (now area) (window .least) × (rows ≡ replicate stateArea 0) ⌝ }
     ensures { λ r. ⌜ Fresh (now (weights .entry)) (now (states .entry)) (now (area .entry)) (window .least .size .types) (window .least .search .made) (window .epsilon) r ⌝ }
 {
-    let mut rows = rows;
     let least = window.least;
     let lambda = least.search.below;
     if lambda == ABOVE_ALL_COSTS {

@@ -65,23 +65,20 @@ pub struct Survey {
 
 impl Survey {
     // Another search through the same triplets: the floors serve it too.
-    pub fn again(self, search: Search) -> Self
+    pub fn again(mut self, search: Search) -> Self
         ensures { λ r. ⌜ (r .size ≡ self .size) × (r .search ≡ search) × (r .floors ≡ self .floors) ⌝ }
     {
-        let floors = self.floors;
-        self.with(search, floors)
+        self.search = search;
+        self
     }
 
     // The search has come to this, and floors were found anew.
-    fn with(self, search: Search, floors: [usize; MOST_TYPES]) -> Self
+    fn with(mut self, search: Search, floors: [usize; MOST_TYPES]) -> Self
         ensures { λ r. ⌜ (r .size ≡ self .size) × (r .search ≡ search) × (r .floors ≡ floors) ⌝ }
     {
-        let size = self.size;
-        Survey {
-            size,
-            search,
-            floors,
-        }
+        self.search = search;
+        self.floors = floors;
+        self
     }
 }
 
