@@ -1,7 +1,7 @@
 -- The rows that a round adds.
 use mathlib.Core.Path.{_≡_}
 use mathlib.Core.Logic.{_≢_, _↔_}
-use mathlib.Core.Bool.{true, false}
+use mathlib.Core.Bool.{true, false, cond}
 use mathlib.Core.List.{List}
 use Prim.Native.Nat.{ℕ, _+_, _*_, _≤_, _<_}
 use lib.ListN.{length, replicate}
@@ -14,6 +14,7 @@ use Rattle.types.specs.State.{laid}
 use Rattle.distances.specs.Area.{Weighed}
 use Rattle.triplets.specs.Followers.{Followers}
 use Rattle.medians.specs.Search.{aboveAllCosts}
+use Rattle.medians.specs.declared.search.Search.{Search}
 use Rattle.sweep.specs.Candidate.{Candidate, Faithful}
 use Rattle.sweep.specs.Floors.{Floors}
 use Rattle.sweep.specs.declared.Survey.{Survey}
@@ -23,8 +24,12 @@ use Rattle.round.specs.declared.candidates.Added.{Added}
 abbrev pub withRows : Bytes → ℕ → Added
 withRows rows count = record { rows = rows; count = count; full = false }
 
-abbrev pub NoneFits : Added → Type 0
-NoneFits r = (r .rows ≡ replicate stateArea 0) × (r .count ≡ 0) × (r .full ≡ true)
+abbrev pub noneFits : Added
+noneFits = record { rows = replicate stateArea 0; count = 0; full = true }
+
+-- What a search that gathered rows comes to.
+abbrev pub addedOf : Bytes → Search → Added
+addedOf rows s = cond (s .full) noneFits (withRows rows (s .count))
 
 -- What it takes to choose a round's rows: n types are current, and who is linked with them is known.
 pub record Choosing (states : Bytes) (area ws next : List ℕ) (n made : ℕ) : Type 0 where

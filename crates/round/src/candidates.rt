@@ -8,7 +8,7 @@ ghost use Rattle.rules.specs.Sizes.{mostTypes, stateArea};
 ghost use Rattle.medians.specs.Guesses.{guessesSize};
 ghost use Rattle.medians.specs.Search.{forLambda};
 ghost use Rattle.sweep.specs.Candidate.{Remembered};
-ghost use Rattle.round.specs.Fresh.{withRows, NoneFits, Choosing, LambdaSought, Fresh};
+ghost use Rattle.round.specs.Fresh.{withRows, noneFits, addedOf, Choosing, LambdaSought, Fresh};
 use crate::ascending::ascending;
 use medians::guesses::guess_all;
 use medians::search::ABOVE_ALL_COSTS;
@@ -28,7 +28,7 @@ pub struct Added {
 
 // No row is added, because there is no room.
 fn none_fits() -> Added
-    ensures { λ r. ⌜ NoneFits r ⌝ }
+    ensures { λ r. ⌜ r ≡ noneFits ⌝ }
 {
     let rows = [0u8; STATE_AREA];
     Added {
@@ -68,7 +68,8 @@ fn seeking(size: Size, made: usize) -> Survey
     }
 }
 
-// The second sweep: all candidates of a cost of at most lambda and epsilon, in memory that is zero.
+// The second sweep: all candidates of a cost of at most lambda and epsilon are gathered and put into order, in memory that is zero. Where
+// there is no candidate, nothing is.
 fn gather_window(
     states: &[u8],
     area: &[u16],
@@ -76,18 +77,18 @@ fn gather_window(
     next: &[u16],
     mismatches: &mut [u64],
     hints: &[u64],
-    mut rows: [u8; STATE_AREA],
+    rows: &mut [u8],
     guesses: &mut [u16],
     window: Window,
-) -> Added
+) -> Search
     requires { ⌜ Choosing (now states) (now area) (now weights) (now next) (window .least .size .types) (window .least .search .made) × (window .epsilon ≤ 65535)
-        × Remembered (now states) (now mismatches) (window .least .size .width) (window .least .search .made) × (length (now guesses) ≡ guessesSize) × LambdaSought (now weights) (now states) (now area) (window .least) × (rows ≡ replicate stateArea 0) ⌝ }
-    ensures { λ r. ⌜ Fresh (now (weights .entry)) (now (states .entry)) (now (area .entry)) (window .least .size .types) (window .least .search .made) (window .epsilon) r ⌝ }
+        × Remembered (now states) (now mismatches) (window .least .size .width) (window .least .search .made) × (length (now guesses) ≡ guessesSize) × LambdaSought (now weights) (now states) (now area) (window .least) × (now rows ≡ replicate stateArea 0) ⌝ }
+    ensures { λ r. ⌜ Fresh (now (weights .entry)) (now (states .entry)) (now (area .entry)) (window .least .size .types) (window .least .search .made) (window .epsilon) (addedOf (now (rows .exit)) r) ⌝ }
 {
     let least = window.least;
     let lambda = least.search.below;
     if lambda == ABOVE_ALL_COSTS {
-        return with_rows(rows, 0);
+        return Search::for_all(least.search.made, 0);
     }
     let search = Search::for_all(least.search.made, lambda + window.epsilon + 1);
     let all = sweep(
@@ -97,15 +98,22 @@ fn gather_window(
         next,
         mismatches,
         hints,
-        &mut rows,
+        rows,
         guesses,
         least.again(search),
     );
-    if all.search.full {
+    ascending(rows, all.search.count);
+    all.search
+}
+
+// What a search that gathered comes to: so many rows, or no room for them.
+fn come_to(rows: [u8; STATE_AREA], search: Search) -> Added
+    ensures { λ r. ⌜ r ≡ addedOf rows search ⌝ }
+{
+    if search.full {
         return none_fits();
     }
-    ascending(&mut rows, all.search.count);
-    with_rows(rows, all.search.count)
+    with_rows(rows, search.count)
 }
 
 // All candidates of a cost of at most lambda and epsilon, each once, ascending by their bytes; who is linked with the current types is
@@ -137,15 +145,16 @@ pub fn choose(
         &mut guesses,
         seeking(size, made),
     );
-    gather_window(
+    let all = gather_window(
         states,
         area,
         weights,
         next,
         mismatches,
         hints,
-        rows,
+        &mut rows,
         &mut guesses,
         Window { least, epsilon },
-    )
+    );
+    come_to(rows, all)
 }

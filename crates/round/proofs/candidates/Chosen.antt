@@ -2,7 +2,7 @@
 -- gathers the candidates of a cost of at most lambda and epsilon, or finds more of them than there is room for.
 use mathlib.Core.Path.{_≡_, refl, sym, ap, _∙_}
 use mathlib.Core.Logic.{_≢_, ⊎-elim}
-use mathlib.Core.Bool.{true, false, cond, false≢true}
+use mathlib.Core.Bool.{Bool, true, false, cond, false≢true}
 use mathlib.Core.List.{List, []}
 use Prim.Native.Nat.{ℕ, _+_, _*_, _≤_, _<_}
 use native.Mathlib.Decide.{decLt}
@@ -29,7 +29,7 @@ use Rattle.sweep.specs.declared.Survey.{Survey}
 use Rattle.sweep.specs.Candidate.{Candidate, Faithful, Everywhere, Remembered}
 use Rattle.sweep.specs.Floors.{Surveyed}
 use Rattle.round.specs.declared.candidates.Added.{Added}
-use Rattle.round.specs.Fresh.{withRows, Choosing, LambdaSought, InWindow, All, TooMany, Fresh, NoneFits}
+use Rattle.round.specs.Fresh.{withRows, Choosing, LambdaSought, InWindow, All, TooMany, Fresh, noneFits, addedOf}
 use Rattle.sweep.proofs.Dropped.{gives-small}
 use Rattle.sweep.proofs.Seated.{candidate-met}
 
@@ -115,16 +115,16 @@ module _ {ws : List ℕ} {states : Bytes} {area : List ℕ} {v : Survey} (sought
   made = v .search .made
 
   -- There is no candidate.
-  pub fresh-none : (e : ℕ) → Weighed ws → n ≤ made → made ≤ 128 → 64 * made ≤ length states → v .search .below ≡ 128001 →
-      Fresh ws states area n made e (withRows (replicate 8192 0) 0)
-  fresh-none e weighed few room lie high = record {
+  pub fresh-none : (e : ℕ) → Weighed ws → n ≤ made → made ≤ 128 → 64 * made ≤ length states → v .search .below ≡ 128001 → {rows : Bytes} {s : Search} →
+      rows ≡ replicate 8192 0 → s ≡ forAll made 0 → Fresh ws states area n made e (addedOf rows s)
+  fresh-none e weighed few room lie high r is = rw (r, is) (record {
     size = simp length-replicate;
     room = omega arith;
     all = λ faithful _.
         none-added _ (λ x cost k. omega (arith, sought .least faithful x cost k, candidate-small weighed few lie k)) refl refl;
     too-many = λ _ f. absurd (false≢true f);
     none-then = λ f. (refl, refl);
-  }
+  })
 
   -- The second sweep.
   module _ (e : ℕ) (lower : v .search .below ≢ 128001) {found : Bytes} {all : Search}
@@ -185,13 +185,13 @@ module _ {ws : List ℕ} {states : Bytes} {area : List ℕ} {v : Survey} (sought
           }
 
     -- There is no room.
-    pub fresh-full : made ≤ 128 → all .full ≡ true → {r : Added} → NoneFits r → Fresh ws states area n made e r
-    fresh-full room full {r} (rows-are, count-is, full-is) = record {
-      size = rw rows-are (simp length-replicate);
+    pub fresh-full : made ≤ 128 → all .full ≡ true → Fresh ws states area n made e noneFits
+    fresh-full room full = record {
+      size = simp length-replicate;
       room = omega arith;
-      all = λ _ f. absurd (false≢true (sym f ∙ full-is));
+      all = λ _ f. absurd (false≢true (sym f));
       too-many = λ faithful _. crowded faithful full;
-      none-then = λ _. (count-is, rows-are);
+      none-then = λ _. (refl, refl);
     }
 
     -- There is room for all.
@@ -216,3 +216,12 @@ module _ {ws : List ℕ} {states : Bytes} {area : List ℕ} {v : Survey} (sought
             sorts
             ∙ same-behind found (replicate 8192 0) _ (second .size) (λ p h. second .rest-stays p (omega (arith, long)))
             ∙ placed-padded 8192 _
+
+    -- Either way, once the rows are in order.
+    pub fresh-added : made ≤ 128 → {rows : Bytes} → rows ≡ placed found 0 (laid (sorted (all .count) (storedAt found))) →
+        Fresh ws states area n made e (addedOf rows all)
+    fresh-added room {rows} sorts = go (all .full) refl
+      where
+        go : (t : Bool) → all .full ≡ t → Fresh ws states area n made e (cond t noneFits (withRows rows (all .count)))
+        go true full = fresh-full room full
+        go false open-is = fresh-all open-is sorts

@@ -44,7 +44,7 @@ sweep-requires c κs =
 
 gather-window-requires : tie.Need-gather-window-requires
 gather-window-requires c κs =
-    let f = c .before .before .before .before .before .before in
+    let f = c .before .before .before .before .before .before .before in
     let e = f .sweep .ensures in
     let is = f .before .seeking .ensures in
     let p = start f .pre in (
@@ -57,7 +57,9 @@ gather-window-requires c κs =
     )
 
 returns : tie.Need-returns
-returns c = let f = c .before .before .before .before .before .before .before .before .before .before in fresh-as (size f) (made f) (c .before .before .before .gather-window .ensures)
+returns c =
+    let f = c .before .before .before .before .before .before .before .before .before .before .before .before .before in
+    rw (c .come-to .ensures) (fresh-as (size f) (made f) (c .before .before .before .before .before .gather-window .ensures))
 
 pub choose-spec : {M : Type 1} → statement M
 choose-spec =
@@ -69,6 +71,8 @@ choose-spec =
     (λ c κs. search needs)
     sweep-requires
     (λ c. search needs)
+    (λ c. search needs)
     gather-window-requires
+    (λ c κs. search needs)
     (λ c. search needs)
     returns)

@@ -1,4 +1,5 @@
 -- `candidates::gather_window` meets its contract: there is no candidate; or all within the window are gathered, or too many.
+use mathlib.Core.Path.{_∙_}
 use mathlib.Core.Logic.{_≢_}
 use Prim.Native.Nat.{_+_}
 use native.Mathlib.Omega.{arith}
@@ -7,14 +8,14 @@ use lib.ListN.{replicate, length-replicate}
 use Rattle.medians.specs.Search.{forAll}
 use Rattle.medians.specs.Swept.{Swept}
 use Rattle.sweep.specs.Candidate.{Candidate, Everywhere}
-use Rattle.round.proofs.candidates.Chosen.{fresh-none, fresh-full, fresh-all}
+use Rattle.round.proofs.candidates.Chosen.{fresh-none, fresh-added}
 use Rattle.round.proofs.candidates.gather_window.Statement.{statement}
 use Rattle.round.proofs.candidates.gather_window.Tie as tie
 
 -- The function's start, that there is a candidate, and what the sweep came to.
 module _ (c : tie.After-sweep) where
   abbrev start : tie.Start
-  start = c .before .before .before .before .before .before .before .before .before .before .before .before .before .before .before .before
+  start = c .before .before .before .before .before .before .before .before .before .before .before .before .before .before .before .before .before
 
   lower : start .args .window .least .search .below ≢ 128001
   lower = c .before .before .before .before .before .before .before .if1 .left
@@ -27,20 +28,19 @@ module _ (c : tie.After-sweep) where
       (forAll (v .search .made) (v .search .below + a .window .epsilon + 1)) (c .sweep .last .1 .1 .1 .1 .1 .1 .0) (c .sweep .result .search)
   swept =
       let e = c .before .again .ensures in
-      rw (e .0, e .1, c .before .before .before .before .before .for-all .ensures, start .pre .5) at (c .sweep .ensures .swept)
+      rw (e .0, e .1, c .before .before .before .before .before .for-all2 .ensures, start .pre .5) at (c .sweep .ensures .swept)
 
 returns : tie.Need-returns
 returns c =
-    let s = c .before .before .before .before .before .before .before .before .before .before in
+    let s = c .before .before .before .before .before .before .before .before .before .before .before in
     let p = s .pre in
-    rw (c .with-rows .ensures, p .5)
-    (fresh-none (p .4) (s .args .window .epsilon) (p .0 .weighed) (p .0 .current) (p .0 .few) (p .0 .lie) (c .before .if1 .taken))
+    fresh-none (p .4) (s .args .window .epsilon) (p .0 .weighed) (p .0 .current) (p .0 .few) (p .0 .lie) (c .before .if1 .taken) (p .5) (c .for-all .ensures)
 
 sweep-requires : tie.Need-sweep-requires
 sweep-requires c κs =
-    let p = c .before .before .before .before .before .before .before .before .before .before .before .before .before .before .before .pre in
+    let p = c .before .before .before .before .before .before .before .before .before .before .before .before .before .before .before .before .pre in
     let e = c .again .ensures in
-    rw (e .0, e .1, e .2, c .before .before .before .before .for-all .ensures) (
+    rw (e .0, e .1, e .2, c .before .before .before .before .for-all2 .ensures) (
       record {
         weighed = p .0 .weighed;
         follows = p .0 .follows;
@@ -56,17 +56,17 @@ sweep-requires c κs =
       p .4 .floors,
     )
 
+ascending-requires : tie.Need-ascending-requires
+ascending-requires c κs =
+    let s = c .before .before .before .before .before .before .before in
+    let w = swept s in
+    (omega (arith, w .room), w .size ∙ simp length-replicate)
+
 returns-2 : tie.Need-returns-2
 returns-2 c =
-    let s = c .before .before .before .before .before .before .before in
+    let s = c .before .before .before .before .before .before .before .before .before .before .before in
     let p = start s .pre in
-    fresh-full (p .4) (start s .args .window .epsilon) (lower s) (swept s) (p .0 .few) (c .before .if2 .taken) (c .none-fits .ensures)
-
-returns-3 : tie.Need-returns-3
-returns-3 c =
-    let s = c .before .before .before .before .before .before .before .before .before .before in
-    rw (c .with-rows2 .ensures)
-    (fresh-all (start s .pre .4) (start s .args .window .epsilon) (lower s) (swept s) (c .before .before .before .before .if2 .left) (c .before .before .ascending .ensures))
+    fresh-added (p .4) (start s .args .window .epsilon) (lower s) (swept s) (p .0 .few) (c .before .before .before .ascending .ensures)
 
 pub gather-window-spec : {M : Type 1} → statement M
 gather-window-spec =
@@ -77,16 +77,10 @@ gather-window-spec =
     (λ c. search needs)
     (λ c. search needs)
     (λ c κs. search needs)
-    (λ c. search needs)
     (λ c κs. search needs)
     sweep-requires
-    (λ c κs. search needs)
+    ascending-requires
     (λ c. search needs)
     (λ c. search needs)
-    returns-2
     (λ c. search needs)
-    (λ c κs. search needs)
-    (λ c κs. search needs)
-    (λ c. search needs)
-    (λ c. search needs)
-    returns-3)
+    returns-2)

@@ -4,7 +4,7 @@ use Rattle.round.proofs.candidates.none_fits.Statement.{statement}
 use Rattle.round.proofs.candidates.none_fits.Tie as tie
 
 returns : tie.Need-returns
-returns c = (refl, refl, refl)
+returns c = refl
 
 pub none-fits-spec : {M : Type 1} → statement M
 none-fits-spec = tie.close (tie.spec returns)
