@@ -8,7 +8,7 @@ ghost use Rattle.rules.specs.Sizes.{mostTypes, stateArea};
 ghost use Rattle.medians.specs.Guesses.{guessesSize};
 ghost use Rattle.medians.specs.Search.{forLambda};
 ghost use Rattle.sweep.specs.Candidate.{Remembered};
-ghost use Rattle.round.specs.Fresh.{withRows, noneFits, addedOf, Choosing, LambdaSought, Fresh};
+ghost use Rattle.round.specs.Fresh.{noneFits, addedOf, Choosing, LambdaSought, Fresh};
 use crate::ascending::ascending;
 use medians::guesses::guess_all;
 use medians::search::ABOVE_ALL_COSTS;
@@ -35,17 +35,6 @@ fn none_fits() -> Added
         rows,
         count: 0,
         full: true,
-    }
-}
-
-// So many rows are added.
-fn with_rows(rows: [u8; STATE_AREA], count: usize) -> Added
-    ensures { λ r. ⌜ r ≡ withRows rows count ⌝ }
-{
-    Added {
-        rows,
-        count,
-        full: false,
     }
 }
 
@@ -113,7 +102,11 @@ fn come_to(rows: [u8; STATE_AREA], search: Search) -> Added
     if search.full {
         return none_fits();
     }
-    with_rows(rows, search.count)
+    Added {
+        rows,
+        count: search.count,
+        full: false,
+    }
 }
 
 // All candidates of a cost of at most lambda and epsilon, each once, ascending by their bytes; who is linked with the current types is
