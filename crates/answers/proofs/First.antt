@@ -6,16 +6,16 @@ use lib.Dec.{eqb}
 use borrow.Author.Tests.{eq-eqb, ne_eqb, eqb-true, eqb-false}
 use Rattle.rules.specs.Answers.{number}
 use Rattle.rules.specs.declared.Answer.{Answer}
-use Rattle.answers.specs.Told.{firstOf}
+use Rattle.answers.specs.Told.{first_of}
 
 module _ (a b : Answer) where
-  pub first-refuses : number a ≢ 0 → a ≡ firstOf a b
+  pub first-refuses : number a ≢ 0 → a ≡ first_of a b
   first-refuses n = rw (ne_eqb (number a) 0 n)
 
-  pub first_passes : number a ≡ 0 → b ≡ firstOf a b
+  pub first_passes : number a ≡ 0 → b ≡ first_of a b
   first_passes z = rw (eq-eqb (number a) 0 z)
 
-  pub neither-refuses : number (firstOf a b) ≡ 0 → (number a ≡ 0) × (number b ≡ 0)
+  pub neither-refuses : number (first_of a b) ≡ 0 → (number a ≡ 0) × (number b ≡ 0)
   neither-refuses = go (eqb (number a) 0) refl
     where
       go : (t : Bool) → eqb (number a) 0 ≡ t → number (cond t b a) ≡ 0 → (number a ≡ 0) × (number b ≡ 0)

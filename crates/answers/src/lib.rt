@@ -1,7 +1,7 @@
 // The room of the answers: the number, the place and the bytes used of an answer, as RULES 4 has them.
 
 ghost use Rattle.std.specs.Prelude.{◌≡◌};
-ghost use Rattle.answers.specs.Told.{Tells, ToldOf, firstOf};
+ghost use Rattle.answers.specs.Told.{Tells, ToldOf, first_of};
 
 use rules::Answer;
 
@@ -49,7 +49,7 @@ pub fn tell(answer: Answer) -> Told
 
 // The first of two answers that refuses, or the second where neither does.
 pub fn first_of(a: Answer, b: Answer) -> Answer
-    ensures { result ≡ firstOf a b }
+    ensures { result ≡ first_of a b }
 {
     let told = tell(a);
     if told.number != 0 {

@@ -54,22 +54,22 @@ deaths (e ∷ E) = ‵ (fdies e.0 e.1) ∷ deaths E
 module _ {M : Type 1} {𝓤 : Ura M} {𝓛 : Logic 𝓤} {K : Type 0} where
   open 𝓛 use {H}
 
-  pub allocs-all : K → {ls : List Local} {Γ : List (Item 𝓤)} {Kt : Env 𝓤 H → Goal 𝓤 H}
+  pub allocs_all : K → {ls : List Local} {Γ : List (Item 𝓤)} {Kt : Env 𝓤 H → Goal 𝓤 H}
       → ((bs : Blocks ls) → Seq K 𝓛 (raw (⋆ 𝓛 (rooms (env ls bs))) ∷ raw (⋆ 𝓛 (deaths (env ls bs))) ∷ Γ) (Kt (env ls bs)))
       → Seq K 𝓛 Γ (allocs ls Kt)
-  allocs-all t {ls = []} k = alloc0 t $ use0 𝓛 (raw (emp 𝓤)) (id⊢ 𝓤 (emp 𝓤)) $ use0 𝓛 (raw (emp 𝓤)) (id⊢ 𝓤 (emp 𝓤)) $ k tt
-  allocs-all t {ls = local τ h ∷ ls} {Kt = Kt} k = alloc1 t (λ b. allocs-all t {ls = ls} {Kt = λ E. Kt ((τ, b) ∷ E)} (λ bs.
+  allocs_all t {ls = []} k = alloc0 t $ use0 𝓛 (raw (emp 𝓤)) (id⊢ 𝓤 (emp 𝓤)) $ use0 𝓛 (raw (emp 𝓤)) (id⊢ 𝓤 (emp 𝓤)) $ k tt
+  allocs_all t {ls = local τ h ∷ ls} {Kt = Kt} k = alloc1 t (λ b. allocs_all t {ls = ls} {Kt = λ E. Kt ((τ, b) ∷ E)} (λ bs.
       -- [room for the others; their deaths; room for this one; its death]
       move t (3 ∷ 1 ∷ []) $ use2 𝓛 (raw (⋆ 𝓛 (deaths ((τ, b) ∷ env ls bs)))) (push 𝓛 (‵ (fdies τ b)) (deaths (env ls bs))) $
       move t (2 ∷ 1 ∷ []) $ use2 𝓛 (raw (⋆ 𝓛 (rooms ((τ, b) ∷ env ls bs)))) (push 𝓛 (‵ (froom τ b 0)) (rooms (env ls bs))) $ k (b, bs)))
 
-  frees-packed : K → (E : List (Ty × ℕ)) {Γ : List (Item 𝓤)} {g : Goal 𝓤 H}
+  frees_packed : K → (E : List (Ty × ℕ)) {Γ : List (Item 𝓤)} {g : Goal 𝓤 H}
       → Step K 𝓛 Γ g (raw (⋆ 𝓛 (rooms E)) ∷ raw (⋆ 𝓛 (deaths E)) ∷ Γ) (frees E g)
-  frees-packed t [] = step (λ s. drop t $ drop t $ free0 t $ s)
-  frees-packed t (e ∷ E) = step (λ s.
+  frees_packed t [] = step (λ s. drop t $ drop t $ free0 t $ s)
+  frees_packed t (e ∷ E) = step (λ s.
       use1 𝓛 (‵ (froom e.0 e.1 0) ⊛ raw (⋆ 𝓛 (rooms E))) (pop 𝓛 (‵ (froom e.0 e.1 0)) (rooms E)) $ split t $ move t (2 ∷ []) $
       use1 𝓛 (‵ (fdies e.0 e.1) ⊛ raw (⋆ 𝓛 (deaths E))) (pop 𝓛 (‵ (fdies e.0 e.1)) (deaths E)) $ split t $ move t (2 ∷ 0 ∷ 3 ∷ 1 ∷ []) $
-      free1 t {τ = e.0} {b = e.1} $ frees-packed t E $ s)
+      free1 t {τ = e.0} {b = e.1} $ frees_packed t E $ s)
 
   -- what is left is the first entry
   pub frees_all : K → (E : List (Ty × ℕ)) {i : Item 𝓤} {g : Goal 𝓤 H} → Step K 𝓛 (i ∷ []) g (i ∷ (rooms E ++ (raw (⋆ 𝓛 (deaths E)) ∷ []))) (frees E g)
@@ -79,7 +79,7 @@ module _ {M : Type 1} {𝓤 : Ura M} {𝓛 : Logic 𝓤} {K : Type 0} where
       let I : SProp 𝓤 = mean 𝓛 i in
       via 𝓤 (sep 𝓤 I (⋆ 𝓛 (rooms E ++ (raw D ∷ [])))) (pop 𝓛 i (rooms E ++ (raw D ∷ [])))
       (via 𝓤 (sep 𝓤 I (sep 𝓤 R D)) (mono_r 𝓤 I (⊢++ 𝓛 (rooms E) (raw D ∷ [])))
-      (via 𝓤 (sep 𝓤 (sep 𝓤 R D) I) (comm∗ 𝓤 I (sep 𝓤 R D)) (via 𝓤 (sep 𝓤 R (sep 𝓤 D I)) (assoc∗ 𝓤 R D I) (frees-packed t E $ s).prf)))))
+      (via 𝓤 (sep 𝓤 (sep 𝓤 R D) I) (comm∗ 𝓤 I (sep 𝓤 R D)) (via 𝓤 (sep 𝓤 R (sep 𝓤 D I)) (assoc∗ 𝓤 R D I) (frees_packed t E $ s).prf)))))
 
   -- ---- a place in a local that is known, and a part of an entry that is known
   from_at : K → {Γ : List (Item 𝓤)} {E : Env 𝓤 H} {i : ℕ} {st : List PStep} {sp₀ sp : Spot 𝓤 H}
@@ -121,25 +121,25 @@ module _ {M : Type 1} {𝓤 : Ura M} {𝓛 : Logic 𝓤} {K : Type 0} where
   unslices t y at = step (λ s. forget t y (ap (λ u. u.0) at) $ forget t (suc y) (ap (λ u. u.1) at) $ s)
 
   -- ---- a call. The local is entry n of the context
-  pub whole-arg : K → {Γ : List (Item 𝓤)} {E : Env 𝓤 H} (n : ℕ) {i : ℕ} {q : Share} {v : Val} {xs : List Operand} {vs : List Val}
+  pub whole_arg : K → {Γ : List (Item 𝓤)} {E : Env 𝓤 H} (n : ℕ) {i : ℕ} {q : Share} {v : Val} {xs : List Operand} {vs : List Val}
       → nth 𝓛 n Γ ≡ ‵ (fat q (spot_of 𝓤 H E i).0 (spot_of 𝓤 H E i).1 0 v) → Opds K 𝓛 Γ E xs vs → Opds K 𝓛 Γ E (copy (place i []) ∷ xs) (v ∷ vs)
-  whole-arg t n e os = and_then t (load t (from t (stop t)) (look t n e)) os
+  whole_arg t n e os = and_then t (load t (from t (stop t)) (look t n e)) os
 
-  pub field-arg : K → {Γ : List (Item 𝓤)} {E : Env 𝓤 H} (n k : ℕ) {i b d : ℕ} {q : Share} {ν : Sym} {τs : Tys} {τ : Ty} {us : Vals}
+  pub field_arg : K → {Γ : List (Item 𝓤)} {E : Env 𝓤 H} (n k : ℕ) {i b d : ℕ} {q : Share} {ν : Sym} {τs : Tys} {τ : Ty} {us : Vals}
       {xs : List Operand} {vs : List Val}
       → ◌≡◌ {A = Spot 𝓤 H × Item 𝓤} (spot_of 𝓤 H E i, nth 𝓛 n Γ) ((ty_struct ν τs, b, 0), ‵ (fat q (ty_struct ν τs) b 0 (vstruct us)))
       → field_at zero τs k ≡ some (τ, d) → Opds K 𝓛 Γ E xs vs → Opds K 𝓛 Γ E (copy (place i (field k ∷ [])) ∷ xs) (get_v us k ∷ vs)
-  field-arg t n k at f os = and_then t (load t (from_at t (ap (λ u. u.0) at) (fld t f (stop t))) (part_at t n (ap (λ u. u.1) at) (sub t k f (whole t)))) os
+  field_arg t n k at f os = and_then t (load t (from_at t (ap (λ u. u.0) at) (fld t f (stop t))) (part_at t n (ap (λ u. u.1) at) (sub t k f (whole t)))) os
 
   pub number : K → {Γ : List (Item 𝓤)} {G : Goal 𝓤 H} (n : ℕ) → n < 2 ^ 64 → Step K 𝓛 (‵ (usize.own_val n (vint w64 n ∷ [])) ∷ Γ) G Γ G
   number t n fits = owned t usize (Is usize) (uint_Makes 𝓛 w64) n (vint w64 n ∷ []) (refl, fits)
 
-  pub lands-nothing : K → {Γ : List (Item 𝓤)} {E : Env 𝓤 H} {C : Calls 𝓤 H} {Λ : Loops 𝓤 H} {Q : Post 𝓤 H} {rest : Body} (n : ℕ)
+  pub lands_nothing : K → {Γ : List (Item 𝓤)} {E : Env 𝓤 H} {C : Calls 𝓤 H} {Λ : Loops 𝓤 H} {Q : Post 𝓤 H} {rest : Body} (n : ℕ)
       {i b : ℕ} {u : Unit {0}} {w : Val}
       → let Γ₁ : List (Item 𝓤) = put 𝓛 n (‵ (fat full_share ty_unit b 0 w)) Γ in
       ◌≡◌ {A = Spot 𝓤 H × Item 𝓤 × Item 𝓤} (spot_of 𝓤 H E i, nth 𝓛 n Γ, nth 𝓛 n Γ₁)
       ((ty_unit, b, 0), ‵ (froom ty_unit b 0), ‵ (fat full_share ty_unit b 0 w))
       → Is Nothing u (w ∷ []) → Step K 𝓛 (put 𝓛 n (‵ (froom ty_unit b 0)) Γ₁) (runs C Λ E rest Q) Γ (lands C Λ E (place i []) w rest Q)
-  lands-nothing t n {u = u} {w = w} at is = step (λ s.
+  lands_nothing t n {u = u} {w = w} at is = step (λ s.
       land t (from_at t (ap (λ z. z.0) at) (stop t)) (init t n (ap (λ z. z.1) at) ((Nothing-Lawful 𝓛).typed u (w ∷ []) is).0) $
       forget t n (ap (λ z. z.2) at) $ s)

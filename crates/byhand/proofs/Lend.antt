@@ -26,7 +26,7 @@ use denote.Shadow.{pure_l, pure_i}
 use denote.Ref.{Bor, MutBor}
 use denote.Slice.{MutSlice, ShrSlice, Room, slice_val, finally, shr_slice_at, mut_slice_at}
 use Rattle.byhand.proofs.Again.{LentAgain, lends_again, comes_back}
-use Rattle.byhand.proofs.Shared.{LentShared, lends_shared, comes-back-shared}
+use Rattle.byhand.proofs.Shared.{LentShared, lends_shared, comes_back-shared}
 
 pub record Passed (R : RattleType) : Type 0 where
   pub lft : Lft
@@ -61,8 +61,8 @@ module _ {R : RattleType} (x : Passed R) where
   abbrev kept : List R.Denot → ℕ → GName → Fml
   kept l ν δ = LentAgain R x.lft (ν ∷ []) x.share x.ref.name x.ref.ptr.0 x.ref.ptr.1 δ l
 
-  abbrev kept-shr : List R.Denot → ℕ → Fml
-  kept-shr l ν = LentShared R x.lft (ν ∷ []) x.share x.ref.name x.ref.ptr.0 x.ref.ptr.1 l
+  abbrev kept_shr : List R.Denot → ℕ → Fml
+  kept_shr l ν = LentShared R x.lft (ν ∷ []) x.share x.ref.name x.ref.ptr.0 x.ref.ptr.1 l
 
   module _ {M : Type 1} {𝓤 : Ura M} where
     abbrev pub held : List R.Denot → Item 𝓤
@@ -102,18 +102,18 @@ module _ {M : Type 1} {𝓤 : Ura M} {𝓛 : Logic 𝓤} {K : Type 0} {Γ : List
   pub lends_shr : K → Soaks G → {R : RattleType} (x : Passed R) (l : List R.Denot)
       → ((ν : ℕ) (δ : GName)
       → Seq K 𝓛 (‵ (flft (ν ∷ []) full_share) ∷ ‵ ((ShrSlice erased (ν ∷ []) R).own_val (named x δ l) (value x ∷ []))
-      ∷ ‵ (fsep (known x l) (kept-shr x l ν)) ∷ Γ) G)
+      ∷ ‵ (fsep (known x l) (kept_shr x l ν)) ∷ Γ) G)
       → Seq K 𝓛 (held x l ∷ Γ) G
   lends_shr t z {R} x l k = recounts t x l (λ e g. lft_new t z (λ ν. move t (1 ∷ 2 ∷ []) $
-      use2 𝓛 (later (some (λ (δ : GName). ‵ ((ShrSlice erased (ν ∷ []) R).own_val (named x δ l) (counted x l)) ⊛ ‵ (kept-shr x l ν))))
+      use2 𝓛 (later (some (λ (δ : GName). ‵ ((ShrSlice erased (ν ∷ []) R).own_val (named x δ l) (counted x l)) ⊛ ‵ (kept_shr x l ν))))
       (lends_shared R x.lft (ν ∷ []) x.share x.ref.name x.ref.ptr.0 x.ref.ptr.1 𝓛 erased erased l) $ await t z $ pick t (λ δ. split t $
       -- [the slice lent; what is kept; ν's token]
       fsplit t $ drop t $ pure_i t (shr_slice_at R (named x δ l) (value x ∷ [])) (tt, (tt, tt)) (e, g) $ fjoin t $
       move t (1 ∷ []) $ pure_i t (known x l) (tt, (tt, tt)) (e, g) $ fjoin t $ move t (2 ∷ 1 ∷ []) $ k ν δ)))
 
   pub back_shr : K → Soaks G → {R : RattleType} (x : Passed R) (l : List R.Denot) {ν : ℕ}
-      → Step K 𝓛 (held x l ∷ Γ) G (‵ (flft (ν ∷ []) full_share) ∷ ‵ (fsep (known x l) (kept-shr x l ν)) ∷ Γ) G
+      → Step K 𝓛 (held x l ∷ Γ) G (‵ (flft (ν ∷ []) full_share) ∷ ‵ (fsep (known x l) (kept_shr x l ν)) ∷ Γ) G
   back_shr t z {R} x l {ν} = step (λ s. lft_end t z $ move t (1 ∷ []) $ fsplit t $ pure_l t (known x l) (λ p. move t (1 ∷ 0 ∷ []) $
       use2 𝓛 (later (‵ (Own x l (counted x l)) ⊛ ‵ (flft x.lft x.share)))
-      (comes-back-shared R x.lft (ν ∷ []) x.share x.ref.name x.ref.ptr.0 x.ref.ptr.1 𝓛 erased erased l) $ await t z $
+      (comes_back-shared R x.lft (ν ∷ []) x.share x.ref.name x.ref.ptr.0 x.ref.ptr.1 𝓛 erased erased l) $ await t z $
       split t $ fsplit t $ drop t $ pure_i t (known x l) (tt, (tt, tt)) p $ fjoin t $ join t $ s))

@@ -16,7 +16,7 @@ use types.Logic.{Logic}
 use types.Kit.{Item, ‵, raw, ◌⊛◌, ⋆, push, pop, ++⊢, ⊢++, Goal, prop, runs, params', passes, frees, at_ret, Seq, Step, step, ◌$◌, by}
 use types.Kit.{move, split, use1, use2}
 use types.Run.{init, enter, params1, pass1, pass0}
-use Rattle.byhand.proofs.Body.{Blocks, env, rooms, deaths, allocs-all, frees_all}
+use Rattle.byhand.proofs.Body.{Blocks, env, rooms, deaths, allocs_all, frees_all}
 
 -- The arguments are of the types of the parameters, which are the locals behind the first.
 abbrev Fit : List Local → List Val → Type 0
@@ -97,14 +97,14 @@ module _ {M : Type 1} {𝓤 : Ura M} {𝓛 : Logic 𝓤} {K : Type 0} where
         ((bs : Blocks f.locals) → let E = env f.locals bs in Seq K 𝓛 (Γ ++ Cells 𝓛 E vs) (runs C Λ E f.body (at_ret E Kf))) →
         Seq K 𝓛 Γ (prop (WpFn 𝓤 H C Λ f vs Kf))
     enters t C Λ f vs Kf fit k =
-        enter t C Λ f vs Kf $ allocs-all t (λ bs. takes_all t f.locals bs vs fit $
+        enter t C Λ f vs Kf $ allocs_all t (λ bs. takes_all t f.locals bs vs fit $
         use2 𝓛 (raw (⋆ 𝓛 (Cells 𝓛 (env f.locals bs) vs)))
         (++⊢ 𝓛 (all-holding (env f.locals bs) vs) (raw (⋆ 𝓛 (deaths (env f.locals bs))) ∷ [])) $
         goes-behind t (Cells 𝓛 (env f.locals bs) vs) $ k bs)
 
     -- The function has returned. Before the locals stand m entries.
-    pub frees-locals : K → (m : ℕ) (E : List (Ty × ℕ)) (vs : List Val) {G : Goal 𝓤 H} → behind m Γ ≡ Cells 𝓛 E vs → Step K 𝓛 (take m Γ) G Γ (frees E G)
-    frees-locals t m E vs {G} e =
+    pub frees_locals : K → (m : ℕ) (E : List (Ty × ℕ)) (vs : List Val) {G : Goal 𝓤 H} → behind m Γ ≡ Cells 𝓛 E vs → Step K 𝓛 (take m Γ) G Γ (frees E G)
+    frees_locals t m E vs {G} e =
         let Δ : List (Item 𝓤) = take m Γ in
         let D : List (Item 𝓤) = raw (⋆ 𝓛 (deaths E)) ∷ [] in
         let vacated : ent 𝓤 (⋆ 𝓛 (Cells 𝓛 E vs)) (⋆ 𝓛 (rooms E ++ D)) =

@@ -84,11 +84,11 @@ module _ {M : Type 1} {𝓤 : Ura M} {𝓛 : Logic 𝓤} {K : Type 0} {Γ : List
           (fills t m at (is, tt)) $ stays t (local t 0 refl) $ empties t m at $ s)
 
       -- It fails, and the function returns, with its result at entry r.
-      pub runs-out : K → (X : SProp 𝓤) (Kf : Val → SProp 𝓤) (m r : ℕ) → nth 𝓛 m Γ ≡ Room 𝓤 H E j → nth 𝓛 r Γ ≡ Room 𝓤 H E 0 →
+      pub runs_out : K → (X : SProp 𝓤) (Kf : Val → SProp 𝓤) (m r : ℕ) → nth 𝓛 m Γ ≡ Room 𝓤 H E j → nth 𝓛 r Γ ≡ Room 𝓤 H E 0 →
           Typed 𝓤 H E j (vbool false) × Typed 𝓤 H E 0 vunit → Opd K 𝓛 Γ E x (vint w64 i) → Opd K 𝓛 Γ E y (vint w64 n) → n ≤ i →
           Step K 𝓛 Γ (frees E (prop (Kf vunit))) Γ (runs C Λ E (test j x y b) (any_q (after_turn 𝓤 H X (Left 𝓤 H C Λ E Kf))))
       unfolding after_turn
-      runs-out t X Kf m r at at' are px py large =
+      runs_out t X Kf m r at at' are px py large =
           step (λ s. sets t (subst (λ (z : Bool). Rv K 𝓛 Γ E (op2 (lt unsigned) x y) (vbool z)) (le-ltb i n large) (bin t px py tt))
           (fills t m at (are.0, tt)) $ leaves_loop t (local t 0 refl) $ exec t C Λ E rest (at_ret E Kf) $ empties t m at $
           sets t (of_opd t (unit_lit t)) (fills t r at' (are.1, tt)) $ returns t (look t 0 refl) $ empties t r at' $ s)

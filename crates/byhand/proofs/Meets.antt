@@ -43,32 +43,32 @@ pub record Param (n : ℕ) (s : Slot n) (k : Kept) : Type 2 where
 module _ {n : ℕ} where
   -- A parameter of which nothing is had at exit, and of which a contract says nothing then: so are a number and a shared slice. A slice that is lent is
   -- had at its last list. Of one that is given up for good, only what says its last list is had.
-  abbrev pub dropped-param : (s : Slot n) → ((κs : Lfts n) (x : (s.row κs).Denot) (f : Last ((s.row κs).exit yes) x) → left ((s.row κs).exit yes) x f ≡ ftrue) →
+  abbrev pub dropped_param : (s : Slot n) → ((κs : Lfts n) (x : (s.row κs).Denot) (f : Last ((s.row κs).exit yes) x) → left ((s.row κs).exit yes) x f ≡ ftrue) →
       (vals : (κs : Lfts n) → (s.row κs).Denot → List Val) → ((κs : Lfts n) → Tells (s.row κs) (Is (s.row κs)) (vals κs)) → Param n s yes
-  dropped-param s silent vals tells = record {
+  dropped_param s silent vals tells = record {
     stay = stay_dropped s yes;
     goes = λ 𝓛. Goes-dropped 𝓛 n s yes silent;
     vals = vals;
     tells = tells;
   }
 
-  abbrev pub number-param : Param n (plain (λ _. usize)) yes
-  number-param = dropped-param (plain (λ _. usize)) (λ κs x f. refl) (λ κs. uint_vals w64) (λ κs. uint_Tells w64)
+  abbrev pub number_param : Param n (plain (λ _. usize)) yes
+  number_param = dropped_param (plain (λ _. usize)) (λ κs x f. refl) (λ κs. uint_vals w64) (λ κs. uint_Tells w64)
 
   module _ (j : ℕ) (ok : Within n j) (R : RattleType) where
-    abbrev pub shared-param : Param n (shr_slice j ok (λ _. R)) yes
-    shared-param = dropped-param (shr_slice j ok (λ _. R)) (λ κs x f. refl) (λ κs. shr_slice_vals) (λ κs x vs p. p.0.0)
+    abbrev pub shared_param : Param n (shr_slice j ok (λ _. R)) yes
+    shared_param = dropped_param (shr_slice j ok (λ _. R)) (λ κs x f. refl) (λ κs. shr_slice_vals) (λ κs x vs p. p.0.0)
 
-    abbrev pub lent-param : Param n (mut_slice j ok (λ _. R)) yes
-    lent-param = record {
+    abbrev pub lent_param : Param n (mut_slice j ok (λ _. R)) yes
+    lent_param = record {
       stay = stay_slice (j ∷ []) ok (plain (λ _. R));
       goes = λ 𝓛. Goes-slice 𝓛 n j ok (plain (λ _. R));
       vals = λ κs. shr_slice_vals;
       tells = λ κs x vs p. p.0.0;
     }
 
-    abbrev pub given-param : Param n (mut_slice j ok (λ _. R)) yes
-    given-param = record {
+    abbrev pub given_param : Param n (mut_slice j ok (λ _. R)) yes
+    given_param = record {
       stay = gave_slice (j ∷ []) ok (plain (λ _. R));
       goes = λ 𝓛. Goes-gave_slice 𝓛 n j ok (plain (λ _. R));
       vals = λ κs. shr_slice_vals;

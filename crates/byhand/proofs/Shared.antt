@@ -1,6 +1,6 @@
 -- A slice that is borrowed by `&mut` can be lent on as a `&`, for a lifetime κ' of a call alone, and be used again after it, as it was.
 -- `lends_shared` makes the `&` that is handed on, under a name of its own, and `LentShared` is what the lender keeps meanwhile. Once κ' has
--- ended, `comes-back-shared` gives the lender its own borrow again, and the token with it.
+-- ended, `comes_back-shared` gives the lender its own borrow again, and the token with it.
 use mathlib.Core.Path.{refl}
 use Prim.Native.Nat.{ℕ}
 use mathlib.Core.List.{List, [], ◌∷◌}
@@ -51,8 +51,8 @@ module _ (R : RattleType) (κ κ' : Lft) (q : Share) (γ : GName) (b o : ℕ) wh
         fsplit ! $ drop ! $ pure_i ! (shr_slice_at R (at-list δ ys) vals) (tt, (tt, tt)) p $ fjoin ! $
         at_once ! $ show ! (λ (ε : GName). sep 𝓤 (sem 𝓛 (Own' ε)) (sem 𝓛 (LentShared ys))) δ $ done !))
 
-    pub comes-back-shared : ent 𝓤 (sep 𝓤 (A.dead κ') (sem 𝓛 (LentShared ys))) (H.⇛ (sep 𝓤 (sem 𝓛 Own) (A.lft κ q)))
-    comes-back-shared =
+    pub comes_back-shared : ent 𝓤 (sep 𝓤 (A.dead κ') (sem 𝓛 (LentShared ys))) (H.⇛ (sep 𝓤 (sem 𝓛 Own) (A.lft κ q)))
+    comes_back-shared =
         qed 𝓛 (‵ (fdead κ') ∷ ‵ (LentShared ys) ∷ []) ∵ updating ! $
         use2 𝓛 (later (‵ ((O.MutSlice erased κ R).own (at-list γ ys)) ⊛ ‵ (flft κ q))) (sl_reshare_back 𝓛 R κ q κ' b o γ ys) $ await ! tt $ split ! $
         fsplit ! $ pure_l ! (room R (length ys)) (λ g. pure_i ! (mut_slice_at R (at-list γ ys) vals) (tt, (tt, tt)) (refl, g) $ fjoin ! $ at_once ! $ done !)

@@ -7,13 +7,13 @@ use native.Mathlib.Omega.{arith}
 use lib.ListN.{length, length-map, length-append, get_or-append}
 use lib.Seq.{get_or-append-add}
 use Rattle.graph.specs.Below.{sum}
-use Rattle.graph.proofs.Below.{in-at, sum-add, sum-ext, sum-zero}
-use Rattle.rules.specs.Job.{Bytes, rows, width, weights, jobRows}
+use Rattle.graph.proofs.Below.{in_at, sum_add, sum_ext, sum_zero}
+use Rattle.rules.specs.Job.{Bytes, rows, width, weights, job_rows}
 use Rattle.rules.specs.Lent.{Lent}
-use Rattle.rules.specs.Types.{Node, InferredBy, inferred, rowCount, nodeAt, rows_of, sampled}
-use Rattle.rules.specs.Links.{linkCount}
-use Rattle.rules.specs.Purge.{Run, linksOf, purge}
-use Rattle.rules.specs.Run.{Network, phaseTwo}
+use Rattle.rules.specs.Types.{Node, InferredBy, inferred, row_count, node_at, rows_of, sampled}
+use Rattle.rules.specs.Links.{link_count}
+use Rattle.rules.specs.Purge.{Run, links_of, purge}
+use Rattle.rules.specs.Run.{Network, phase_two}
 use Rattle.rules.specs.Call.{found, verdict}
 use Rattle.rules.specs.declared.Origin.{Origin}
 use Rattle.rules.proofs.Job.{length-rows}
@@ -26,45 +26,45 @@ use Rattle.claims.specs.Drawing.{Drawing}
 use Rattle.claims.proofs.Drawing.{listed-cheapest, network-joined}
 
 -- An inferred type counts no rows.
-inferred-round : (rounds : ℕ) (o : Origin) → InferredBy rounds o → (inferred o ≡ true) × (rowCount o ≡ 0)
-inferred-round rounds o i = rw i.origin-is (refl, refl)
+inferred-round : (rounds : ℕ) (o : Origin) → InferredBy rounds o → (inferred o ≡ true) × (row_count o ≡ 0)
+inferred-round rounds o i = rw i.origin_is (refl, refl)
 
-module _ (job : Bytes) (run : Run) (sound : Sound (jobRows job) (width job) (purge (weights job) 0 run)) where
+module _ (job : Bytes) (run : Run) (sound : Sound (job_rows job) (width job) (purge (weights job) 0 run)) where
   abbrev ts : List Node
   ts = (purge (weights job) 0 run).current
 
   abbrev xs : List Node
-  xs = sampled (jobRows job)
+  xs = sampled (job_rows job)
 
   abbrev later : List Node
   later = sound.later
 
-  behind : (k : ℕ) → k < length later → InferredBy (purge (weights job) 0 run).rounds (nodeAt later k).origin
-  behind k h = sound.later-inferred _ (in-at later k _ h)
+  behind : (k : ℕ) → k < length later → InferredBy (purge (weights job) 0 run).rounds (node_at later k).origin
+  behind k h = sound.later-inferred _ (in_at later k _ h)
 
-  behind-is : (k : ℕ) → nodeAt ts (length xs + k) ≡ nodeAt later k
+  behind-is : (k : ℕ) → node_at ts (length xs + k) ≡ node_at later k
   behind-is k = rw sound.current-is (get_or-append-add xs later k _)
 
   length-ts : length ts ≡ length xs + length later
   length-ts = ap length sound.current-is ∙ length-append xs later
 
-  counted : sum (length ts) (λ k. rowCount (nodeAt ts k).origin) ≡ rows job
+  counted : sum (length ts) (λ k. row_count (node_at ts k).origin) ≡ rows job
   counted =
-      rw (length-ts) (sum-add (length xs) (length later) (λ k. rowCount (nodeAt ts k).origin) ∙
-      omega (arith, front ∙ row_counts (jobRows job) ∙ length-rows job, back))
+      rw (length-ts) (sum_add (length xs) (length later) (λ k. row_count (node_at ts k).origin) ∙
+      omega (arith, front ∙ row_counts (job_rows job) ∙ length-rows job, back))
     where
-      front : sum (length xs) (λ k. rowCount (nodeAt ts k).origin) ≡ sum (length xs) (λ k. rowCount (nodeAt xs k).origin)
-      front = sum-ext (length xs) _ _ (λ k h. rw (sound.current-is, get_or-append xs later _ k h))
+      front : sum (length xs) (λ k. row_count (node_at ts k).origin) ≡ sum (length xs) (λ k. row_count (node_at xs k).origin)
+      front = sum_ext (length xs) _ _ (λ k h. rw (sound.current-is, get_or-append xs later _ k h))
 
-      back : sum (length later) (λ k. rowCount (nodeAt ts (length xs + k)).origin) ≡ 0
-      back = sum-zero (length later) _ (λ k h. rw (behind-is k) (inferred-round _ _ (behind k h)).1)
+      back : sum (length later) (λ k. row_count (node_at ts (length xs + k)).origin) ≡ 0
+      back = sum_zero (length later) _ (λ k h. rw (behind-is k) (inferred-round _ _ (behind k h)).1)
 
-  three : (k : ℕ) → k < length later → 3 ≤ linkCount (linksOf (weights job) 0 (purge (weights job) 0 run)) (length xs + k)
+  three : (k : ℕ) → k < length later → 3 ≤ link_count (links_of (weights job) 0 (purge (weights job) 0 run)) (length xs + k)
   three k h =
       purge-links (weights job) 0 run (length xs + k) (omega (arith, length-ts)) (rw (behind-is k) (inferred-round _ _ (behind k h)).0)
 
-  drawn-network : Drawing job (phaseTwo (weights job) run)
-  unfolding phaseTwo
+  drawn-network : Drawing job (phase_two (weights job) run)
+  unfolding phase_two
   drawn-network = record {
     inferred = later;
     kept = sound.current-is;

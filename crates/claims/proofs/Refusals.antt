@@ -11,21 +11,21 @@ use lib.Dec.{ltb, eqb}
 use lib.ListN.{length, get_or}
 use borrow.Author.Tests.{ltb-true, lt-ltb, eqb-true, eqb-false, eq-eqb, ne_eqb}
 use Rattle.graph.specs.Below.{first}
-use Rattle.graph.proofs.Below.{or-true, is_false, first-hits, first-before, first-is}
+use Rattle.graph.proofs.Below.{or_true, is_false, first-hits, first-before, first-is}
 use Rattle.rules.specs.Answers.{number, place, when◌refuse◌else◌, passed}
-use Rattle.rules.specs.Job.{Bytes, weightsOffset, word, rows, width, weightAt, stateAt, outside, statesOffset, wholeLength, badWeight, badState, checked, Row, weights, jobRows}
-use Rattle.rules.specs.Lent.{Lent, areaShort}
-use Rattle.rules.specs.Types.{sampled, tooMany, row129}
+use Rattle.rules.specs.Job.{Bytes, weights_offset, word, rows, width, weight_at, state_at, outside, states_offset, whole_length, bad_weight, bad_state, checked, Row, weights, job_rows}
+use Rattle.rules.specs.Lent.{Lent, area_short}
+use Rattle.rules.specs.Types.{sampled, has_too_many, row129}
 use Rattle.rules.specs.Purge.{Run}
 use Rattle.rules.specs.Run.{Outcome, settled, full}
-use Rattle.rules.specs.Call.{Verdict, refused, answerTo, ◌then◌, ended, outcome, verdict, answer}
+use Rattle.rules.specs.Call.{Verdict, refused, answer_to, ◌then◌, ended, outcome, verdict, answer}
 use Rattle.rules.specs.declared.Answer.{Answer}
 use Rattle.rules.specs.declared.Answer.TheVariants.{Done, Area, Head, Rows, Width, Layout, Weight, State, Types, Room, Split}
-use Rattle.rules.proofs.Ends.{phase-same}
-use Rattle.rules.proofs.Types.{is-first, Nth, too_many, too-many-at, length-sampled, few-sampled}
+use Rattle.rules.proofs.Ends.{phase_same}
+use Rattle.rules.proofs.Types.{is-first, Nth, too_many, too_many-at, length-sampled, few-sampled}
 use Rattle.readback.specs.Runs.{Runs}
-use Rattle.readback.proofs.Found.{never-split-network, unrefused, runs-outcome}
-use Rattle.claims.specs.Refusals.{FirstWhere, Outside, WrongField, weights-offset, states-offset, whole_length, bytes-lent, Type129, Condition, order, Due}
+use Rattle.readback.proofs.Found.{never_split-network, unrefused, runs-outcome}
+use Rattle.claims.specs.Refusals.{FirstWhere, Outside, WrongField, weights_offset_wrong, states_offset_wrong, whole_length_wrong, bytes_lent, Type129, Condition, order, Due}
 use Rattle.claims.proofs.Drawing.{network-joined}
 
 -- ── The table by its numbers ──
@@ -55,18 +55,18 @@ refusal_is Split h = refl
 abbrev Tests : Bool → Type 0 → Type 0
 Tests t A = (t ≡ true) ↔ A
 
-ltb-tests : (a b : ℕ) → Tests (ltb a b) (a < b)
-ltb-tests a b = (ltb-true a b, lt-ltb a b)
+ltb_tests : (a b : ℕ) → Tests (ltb a b) (a < b)
+ltb_tests a b = (ltb-true a b, lt-ltb a b)
 
-zero-tests : (a : ℕ) → Tests (ltb a 1) (a ≡ 0)
-zero-tests a = (λ e. omega (arith, ltb-true a 1 e), λ e. lt-ltb a 1 (omega arith))
+zero_tests : (a : ℕ) → Tests (ltb a 1) (a ≡ 0)
+zero_tests a = (λ e. omega (arith, ltb-true a 1 e), λ e. lt-ltb a 1 (omega arith))
 
-or-tests : {s t : Bool} {A B : Type 0} → Tests s A → Tests t B → Tests (s || t) (A ⊎ B)
-or-tests {s} {t} f g = let o = or-true s t in (λ e. ⊎_map f.0 g.0 (o.0 e), λ h. o.1 (⊎_map f.1 g.1 h))
+or_tests : {s t : Bool} {A B : Type 0} → Tests s A → Tests t B → Tests (s || t) (A ⊎ B)
+or_tests {s} {t} f g = let o = or_true s t in (λ e. ⊎_map f.0 g.0 (o.0 e), λ h. o.1 (⊎_map f.1 g.1 h))
 
 module _ (n : ℕ) (t : ℕ → Bool) (P : ℕ → Type 0) (is : (i : ℕ) → Tests (t i) (P i)) where
-  first-tests : Tests (ltb (first n t) n) (FirstWhere n P (first n t))
-  first-tests = (λ e. let h = ltb-true _ _ e in record { below = h; here = (is _).0 (first-hits n t h); before = λ i l p. false≢true (sym (first-before n t i l) ∙ (is i).1 p) }, λ f. lt-ltb _ _ f.below)
+  first_tests : Tests (ltb (first n t) n) (FirstWhere n P (first n t))
+  first_tests = (λ e. let h = ltb-true _ _ e in record { below = h; here = (is _).0 (first-hits n t h); before = λ i l p. false≢true (sym (first-before n t i l) ∙ (is i).1 p) }, λ f. lt-ltb _ _ f.below)
 
   first_one : (p : ℕ) → FirstWhere n P p → FirstWhere n P (first n t)
   first_one p f = rw (first-is n t p (omega (arith, f.below)) (λ i l. is_false (t i) (λ e. f.before i l ((is i).0 e))) (λ l. (is p).1 f.here)) f
@@ -78,15 +78,15 @@ first-same p q f g = elim (dec_lt p q) [
 ]
 
 -- The first wrong field, by tests.
-abbrev wrongField : Bytes → ℕ
-wrongField job =
-    cond (eqb (word job 6) weightsOffset) (cond (eqb (word job 8) (statesOffset job)) (cond (eqb (word job 10) (wholeLength job)) 12 10) 8) 6
+abbrev wrong_field : Bytes → ℕ
+wrong_field job =
+    cond (eqb (word job 6) weights_offset) (cond (eqb (word job 8) (states_offset job)) (cond (eqb (word job 10) (whole_length job)) 12 10) 8) 6
 
-wrong-field : (job : Bytes) {p : ℕ} → WrongField job p → p ≡ wrongField job
-wrong-field job (weights-offset n) = rw (ne_eqb _ _ n)
-wrong-field job (states-offset a n) = rw (eq-eqb _ _ a, ne_eqb _ _ n)
-wrong-field job (whole_length a b n) = rw (eq-eqb _ _ a, eq-eqb _ _ b, ne_eqb _ _ n)
-wrong-field job (bytes-lent a b c n) = rw (eq-eqb _ _ a, eq-eqb _ _ b, eq-eqb _ _ c)
+wrong_field_lem : (job : Bytes) {p : ℕ} → WrongField job p → p ≡ wrong_field job
+wrong_field_lem job (weights_offset_wrong n) = rw (ne_eqb _ _ n)
+wrong_field_lem job (states_offset_wrong a n) = rw (eq-eqb _ _ a, ne_eqb _ _ n)
+wrong_field_lem job (whole_length_wrong a b n) = rw (eq-eqb _ _ a, eq-eqb _ _ b, ne_eqb _ _ n)
+wrong_field_lem job (bytes_lent a b c n) = rw (eq-eqb _ _ a, eq-eqb _ _ b, eq-eqb _ _ c)
 
 module _ (lent : Lent) (job : Bytes) where
   abbrev Given : Answer → Type 0
@@ -128,11 +128,11 @@ module _ (lent : Lent) (job : Bytes) where
   tries k l false a next h e hl is one r = passes k l next h (λ p g. false≢true (is.1 (one p g))) (r refl)
 
   -- One list of tests behind another.
-  follows : (k l m : ℕ) (a : Answer) (v : Verdict) → k ≤ l → l ≤ 11 → Right k l a → (number a ≡ 0 → Right l 11 (answerTo m v)) →
-      Right k 11 (answerTo m (a then v))
+  follows : (k l m : ℕ) (a : Answer) (v : Verdict) → k ≤ l → l ≤ 11 → Right k l a → (number a ≡ 0 → Right l 11 (answer_to m v)) →
+      Right k 11 (answer_to m (a then v))
   follows k l m a v hk hl r s = go (eqb (number a) 0) refl
     where
-      go : (t : Bool) → eqb (number a) 0 ≡ t → Right k 11 (answerTo m (cond t v (refused a)))
+      go : (t : Bool) → eqb (number a) 0 ≡ t → Right k 11 (answer_to m (cond t v (refused a)))
       go true e =
           let z = eqb-true (number a) 0 e in
           let n = s z in
@@ -151,61 +151,61 @@ module _ (lent : Lent) (job : Bytes) where
 
   -- ── 1, and 2 to 7 ──
 
-  area : Right 1 2 (when areaShort lent refuse Area else passed)
-  unfolding areaShort
+  area : Right 1 2 (when area_short lent refuse Area else passed)
+  unfolding area_short
   area =
-      tries 1 2 (areaShort lent) Area passed (omega arith) refl (omega arith)
-      (or-tests (or-tests (or-tests (ltb-tests _ _) (ltb-tests _ _)) (ltb-tests _ _)) (ltb-tests _ _)) (λ p g. g) (λ e. ends 2 0)
+      tries 1 2 (area_short lent) Area passed (omega arith) refl (omega arith)
+      (or_tests (or_tests (or_tests (ltb_tests _ _) (ltb_tests _ _)) (ltb_tests _ _)) (ltb_tests _ _)) (λ p g. g) (λ e. ends 2 0)
 
   -- The four tests of LAYOUT: each is made where those before it passed.
   layout : (l : ℕ) (next : Answer) → 5 < l → Right 6 l next → Right 5 l (
-      when not (eqb (word job 6) weightsOffset) refuse Layout 6 else
-      when not (eqb (word job 8) (statesOffset job)) refuse Layout 8 else
-      when not (eqb (word job 10) (wholeLength job)) refuse Layout 10 else
-      when not (eqb (length job) (wholeLength job)) refuse Layout 12 else next)
+      when not (eqb (word job 6) weights_offset) refuse Layout 6 else
+      when not (eqb (word job 8) (states_offset job)) refuse Layout 8 else
+      when not (eqb (word job 10) (whole_length job)) refuse Layout 10 else
+      when not (eqb (length job) (whole_length job)) refuse Layout 12 else next)
   layout l next h r = go _ _ _ _ refl refl refl refl
     where
       refuses : (p : ℕ) → WrongField job p → Right 5 l (Layout p)
       refuses p w = stops 5 l (Layout p) (omega arith) refl h w
 
-      fits : word job 6 ≡ weightsOffset → word job 8 ≡ statesOffset job → word job 10 ≡ wholeLength job → length job ≡ wholeLength job → (p : ℕ) → ¬ WrongField job p
-      fits a b c d p (weights-offset n) = n a
-      fits a b c d p (states-offset e n) = n b
-      fits a b c d p (whole_length e f n) = n c
-      fits a b c d p (bytes-lent e f g n) = n d
+      fits : word job 6 ≡ weights_offset → word job 8 ≡ states_offset job → word job 10 ≡ whole_length job → length job ≡ whole_length job → (p : ℕ) → ¬ WrongField job p
+      fits a b c d p (weights_offset_wrong n) = n a
+      fits a b c d p (states_offset_wrong e n) = n b
+      fits a b c d p (whole_length_wrong e f n) = n c
+      fits a b c d p (bytes_lent e f g n) = n d
 
-      go : (s t x y : Bool) → eqb (word job 6) weightsOffset ≡ s → eqb (word job 8) (statesOffset job) ≡ t → eqb (word job 10) (wholeLength job) ≡ x →
-          eqb (length job) (wholeLength job) ≡ y → Right 5 l (when not s refuse Layout 6 else when not t refuse Layout 8 else when not x refuse Layout 10 else when not y refuse Layout 12 else next)
-      go false t x y a b c d = refuses 6 (weights-offset (eqb-false _ _ a))
-      go true false x y a b c d = refuses 8 (states-offset (eqb-true _ _ a) (eqb-false _ _ b))
-      go true true false y a b c d = refuses 10 (whole_length (eqb-true _ _ a) (eqb-true _ _ b) (eqb-false _ _ c))
-      go true true true false a b c d = refuses 12 (bytes-lent (eqb-true _ _ a) (eqb-true _ _ b) (eqb-true _ _ c) (eqb-false _ _ d))
+      go : (s t x y : Bool) → eqb (word job 6) weights_offset ≡ s → eqb (word job 8) (states_offset job) ≡ t → eqb (word job 10) (whole_length job) ≡ x →
+          eqb (length job) (whole_length job) ≡ y → Right 5 l (when not s refuse Layout 6 else when not t refuse Layout 8 else when not x refuse Layout 10 else when not y refuse Layout 12 else next)
+      go false t x y a b c d = refuses 6 (weights_offset_wrong (eqb-false _ _ a))
+      go true false x y a b c d = refuses 8 (states_offset_wrong (eqb-true _ _ a) (eqb-false _ _ b))
+      go true true false y a b c d = refuses 10 (whole_length_wrong (eqb-true _ _ a) (eqb-true _ _ b) (eqb-false _ _ c))
+      go true true true false a b c d = refuses 12 (bytes_lent (eqb-true _ _ a) (eqb-true _ _ b) (eqb-true _ _ c) (eqb-false _ _ d))
       go true true true true a b c d = passes 5 l next (omega arith) (fits (eqb-true _ _ a) (eqb-true _ _ b) (eqb-true _ _ c) (eqb-true _ _ d)) r
 
   checks : Right 2 8 (checked job)
-  unfolding checked badWeight badState
+  unfolding checked bad_weight bad_state
   checks =
-      tries 2 8 _ Head _ (omega arith) refl (omega arith) (ltb-tests _ _) (λ p g. g)
-      (λ e. tries 3 8 _ Rows _ (omega arith) refl (omega arith) (or-tests (zero-tests _) (ltb-tests _ _)) (λ p g. g)
-      (λ e. tries 4 8 _ Width _ (omega arith) refl (omega arith) (or-tests (zero-tests _) (ltb-tests _ _)) (λ p g. g)
+      tries 2 8 _ Head _ (omega arith) refl (omega arith) (ltb_tests _ _) (λ p g. g)
+      (λ e. tries 3 8 _ Rows _ (omega arith) refl (omega arith) (or_tests (zero_tests _) (ltb_tests _ _)) (λ p g. g)
+      (λ e. tries 4 8 _ Width _ (omega arith) refl (omega arith) (or_tests (zero_tests _) (ltb_tests _ _)) (λ p g. g)
       (λ e. layout 8 _ (omega arith)
-      (tries 6 8 _ (Weight (badWeight job)) _ (omega arith) refl (omega arith) (first-tests (width job) _ _ weight) (first_one (width job) _ _ weight)
-      (λ e. tries 7 8 _ (State (badState job)) _ (omega arith) refl (omega arith) (first-tests (rows job * width job) _ _ state) (first_one (rows job * width job) _ _ state)
+      (tries 6 8 _ (Weight (bad_weight job)) _ (omega arith) refl (omega arith) (first_tests (width job) _ _ weight) (first_one (width job) _ _ weight)
+      (λ e. tries 7 8 _ (State (bad_state job)) _ (omega arith) refl (omega arith) (first_tests (rows job * width job) _ _ state) (first_one (rows job * width job) _ _ state)
       (λ e. ends 8 0))))))
     where
-      weight : (c : ℕ) → Tests (outside 1 1000 (weightAt job c)) ((weightAt job c ≡ 0) ⊎ (1000 < weightAt job c))
-      weight c = or-tests (zero-tests _) (ltb-tests _ _)
+      weight : (c : ℕ) → Tests (outside 1 1000 (weight_at job c)) ((weight_at job c ≡ 0) ⊎ (1000 < weight_at job c))
+      weight c = or_tests (zero_tests _) (ltb_tests _ _)
 
-      state : (i : ℕ) → Tests (outside 33 126 (stateAt job i)) (Outside 33 126 (stateAt job i))
-      state i = or-tests (ltb-tests _ _) (ltb-tests _ _)
+      state : (i : ℕ) → Tests (outside 33 126 (state_at job i)) (Outside 33 126 (state_at job i))
+      state i = or_tests (ltb_tests _ _) (ltb_tests _ _)
 
   -- ── 8, then 9 and 10 ──
 
   abbrev rs : List Row
-  rs = jobRows job
+  rs = job_rows job
 
   abbrev types : Answer
-  types = when tooMany rs refuse Types (row129 rs) else passed
+  types = when has_too_many rs refuse Types (row129 rs) else passed
 
   type-nth : (p : ℕ) → Nth rs 128 p ↔ Type129 rs p
   type-nth p = (
@@ -215,27 +215,27 @@ module _ (lent : Lent) (job : Bytes) where
 
   types-right : Right 8 9 types
   types-right =
-      tries 8 9 (tooMany rs) (Types (row129 rs)) passed (omega arith) refl (omega arith) is
-      (λ p t. is.0 (too-many-at rs p ((type-nth p).1 t)).0) (λ e. ends 9 0)
+      tries 8 9 (has_too_many rs) (Types (row129 rs)) passed (omega arith) refl (omega arith) is
+      (λ p t. is.0 (too_many-at rs p ((type-nth p).1 t)).0) (λ e. ends 9 0)
     where
-      is : Tests (tooMany rs) (Type129 rs (row129 rs))
-      is = (λ e. (type-nth _).0 (too_many rs e), λ t. (too-many-at rs _ ((type-nth _).1 t)).0)
+      is : Tests (has_too_many rs) (Type129 rs (row129 rs))
+      is = (λ e. (type-nth _).0 (too_many rs e), λ t. (too_many-at rs _ ((type-nth _).1 t)).0)
 
   abbrev ws : List ℕ
   ws = weights job
 
   -- The run gives ROOM, or ends in a network, whose links always join all its types.
-  ran : length (sampled rs) ≤ 128 → Right 9 11 (answerTo (width job) (ended ws (outcome job)))
+  ran : length (sampled rs) ≤ 128 → Right 9 11 (answer_to (width job) (ended ws (outcome job)))
   ran h = go (outcome job) (runs-outcome job h)
     where
       differ : {run : Run} {p : ℕ} → settled run ≡ full p → ⊥
       differ e = let z : ◌≡◌ {A = ℕ} 0 1 = cc in omega arith
 
-      go : (end : Outcome) → Runs job end → Right 9 11 (answerTo (width job) (ended ws end))
+      go : (end : Outcome) → Runs job end → Right 9 11 (answer_to (width job) (ended ws end))
       go (full round) r = stops 9 11 (Room round) (omega arith) refl (omega arith) r
       go (settled run) r =
-          passes 9 11 _ (omega arith) (λ p g. differ (phase-same r g))
-          (passes 10 11 _ (omega arith) (λ p s. s.2 (network-joined ws s.0)) (rw (never-split-network ws run) (ends 11 _)))
+          passes 9 11 _ (omega arith) (λ p g. differ (phase_same r g))
+          (passes 10 11 _ (omega arith) (λ p s. s.2 (network-joined ws s.0)) (rw (never_split-network ws run) (ends 11 _)))
 
   right : Right 1 11 (answer lent job)
   unfolding answer verdict
@@ -243,7 +243,7 @@ module _ (lent : Lent) (job : Bytes) where
       follows 1 2 (width job) _ _ (omega arith) (omega arith) area
       (λ z. follows 2 8 (width job) _ _ (omega arith) (omega arith) checks
       (λ z. follows 8 9 (width job) _ _ (omega arith) (omega arith) types-right
-      (λ z. ran (few-sampled rs (unrefused (tooMany rs) (Types (row129 rs)) (omega arith) z)))))
+      (λ z. ran (few-sampled rs (unrefused (has_too_many rs) (Types (row129 rs)) (omega arith) z)))))
 
   -- ── What follows ──
 
@@ -267,11 +267,11 @@ module _ (lent : Lent) (job : Bytes) where
   one_place Head q g h = refl
   one_place Rows q g h = refl
   one_place Width q g h = refl
-  one_place (Layout p) q g h = ap Layout (wrong-field job g ∙ sym (wrong-field job h))
+  one_place (Layout p) q g h = ap Layout (wrong_field_lem job g ∙ sym (wrong_field_lem job h))
   one_place (Weight p) q g h = ap Weight (first-same p q g h)
   one_place (State p) q g h = ap State (first-same p q g h)
-  one_place (Types p) q g h = ap Types (sym (too-many-at rs p ((type-nth p).1 g)).1 ∙ (too-many-at rs q ((type-nth q).1 h)).1)
-  one_place (Room p) q g h = ap Room (let e = phase-same g h in cc)
+  one_place (Types p) q g h = ap Types (sym (too_many-at rs p ((type-nth p).1 g)).1 ∙ (too_many-at rs q ((type-nth q).1 h)).1)
+  one_place (Room p) q g h = ap Room (let e = phase_same g h in cc)
   one_place Split q g h = refl
 
   -- No refusal is given exactly if no condition holds.
@@ -282,9 +282,9 @@ module _ (lent : Lent) (job : Bytes) where
   )
 
   -- A refusal is the answer exactly if its condition holds and no earlier one does.
-  refused-exactly : (a : Answer) → number a ≢ 0 →
+  refused_exactly : (a : Answer) → number a ≢ 0 →
       (answer lent job ≡ a) ↔ (Condition lent job a × ((b : Answer) → number b < number a → ¬ Condition lent job b))
-  refused-exactly a n = (there, λ s. back s.0 s.1)
+  refused_exactly a n = (there, λ s. back s.0 s.1)
     where
       there : answer lent job ≡ a → Given a × ((b : Answer) → number b < number a → ¬ Given b)
       there e =
@@ -313,8 +313,8 @@ module _ (lent : Lent) (job : Bytes) where
               f ∙ sym (one_place a (place r) g (rw f at (right.holds is-refusal)))
 
   -- SPLIT is never the answer.
-  pub never-split-answer : answer lent job ≢ Split
-  never-split-answer e = let s = ((refused-exactly Split (λ z. omega arith)).0 e).0 in s.2 (network-joined ws s.0)
+  pub never_split-answer : answer lent job ≢ Split
+  never_split-answer e = let s = ((refused_exactly Split (λ z. omega arith)).0 e).0 in s.2 (network-joined ws s.0)
 
 -- The order in which the refusals are tried is that of their numbers.
 order_is : (a : Answer) → order a ≡ number a
@@ -330,9 +330,9 @@ order_is (Types row) = refl
 order_is (Room round) = refl
 order_is Split = refl
 
-pub given-in-turn : (lent : Lent) (job : Bytes) (a : Answer) → number a ≢ 0 → (answer lent job ≡ a) ↔ Due lent job a
-given-in-turn lent job a n =
-    let (there, back) = refused-exactly lent job a n in (
+pub given_in_turn : (lent : Lent) (job : Bytes) (a : Answer) → number a ≢ 0 → (answer lent job ≡ a) ↔ Due lent job a
+given_in_turn lent job a n =
+    let (there, back) = refused_exactly lent job a n in (
       λ e. let (given, none) = there e in (given, λ b h. none b (omega (arith, h, order_is a, order_is b))),
       λ t. back (t.0, λ b h. t.1 b (omega (arith, h, order_is a, order_is b))),
     )

@@ -18,13 +18,13 @@ pub record Memory : Type 0 where
 
 -- RULES 3.4: memory of the same lengths, whatever it holds.
 pub record SameLengths (a b : Memory) : Type 0 where
-  pub result-length : length a.result ≡ length b.result
-  pub states-length : length a.states ≡ length b.states
-  pub distances-length : length a.distances ≡ length b.distances
-  pub links-length : length a.links ≡ length b.links
+  pub result_length : length a.result ≡ length b.result
+  pub states_length : length a.states ≡ length b.states
+  pub distances_length : length a.distances ≡ length b.distances
+  pub links_length : length a.links ≡ length b.links
 
-abbrev pub lengthsOf : Memory → Lent
-lengthsOf m = lent_by m.result m.states m.distances m.links
+abbrev pub lengths_of : Memory → Lent
+lengths_of m = lent_by m.result m.states m.distances m.links
 
 -- RULES 19.1: a call for a job: the memory before, the answer, the memory after.
 abbrev pub Calls : Bytes → Memory → Answer → Memory → Type 0

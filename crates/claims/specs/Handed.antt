@@ -11,21 +11,21 @@ t block = word block 0
 abbrev pub s : Bytes → ℕ
 s block = word block 2
 
-abbrev pub recordPlace : Bytes → ℕ → ℕ
-recordPlace block k = word block (16 + 6 * k + 2)
+abbrev pub record_place : Bytes → ℕ → ℕ
+record_place block k = word block (16 + 6 * k + 2)
 
 -- RULES 14.2: each condition of its list, with the numbers written out.
 pub record Handed (job block : Bytes) (k : ℕ) : Type 0 where
   pub passes : number (checked job) ≡ 0
   pub head : 16 ≤ length block
-  pub some-sampled : 1 ≤ s block
-  pub sampled-most : s block ≤ t block
-  pub few-types : t block ≤ 128
-  pub width-field : word block 4 ≡ width job
-  pub records-field : word block 10 ≡ 16
-  pub rows-field : word block 12 ≡ 16 + 6 * t block
-  pub links-field : word block 14 ≡ 16 + 6 * t block + (t block - s block) * width job
+  pub some_sampled : 1 ≤ s block
+  pub sampled_most : s block ≤ t block
+  pub few_types : t block ≤ 128
+  pub width_field : word block 4 ≡ width job
+  pub records_field : word block 10 ≡ 16
+  pub rows_field : word block 12 ≡ 16 + 6 * t block
+  pub links_field : word block 14 ≡ 16 + 6 * t block + (t block - s block) * width job
   pub reaches : 16 + 6 * t block + (t block - s block) * width job ≤ length block
-  pub number-known : k < t block
-  pub place-sampled : k < s block → recordPlace block k < rows job
-  pub place-inferred : s block ≤ k → recordPlace block k < t block - s block
+  pub number_known : k < t block
+  pub place_sampled : k < s block → record_place block k < rows job
+  pub place_inferred : s block ≤ k → record_place block k < t block - s block

@@ -1,11 +1,11 @@
 -- RULES 19.2, the second demand: the table of RULES 4.3 as plain statements, with the numbers written out. proofs/Refusals.antt shows that
 -- each refusal is given in its turn and never else.
 use Rattle.std.specs.Prelude.{◌≡◌, ◌⊎◌, ◌≢◌, List, ℕ, ◌+◌, ◌*◌, ◌<◌, length, take}
-use Rattle.rules.specs.Job.{Bytes, Row, word, rows, width, weightAt, weights, stateAt, jobRows}
+use Rattle.rules.specs.Job.{Bytes, Row, word, rows, width, weight_at, weights, state_at, job_rows}
 use Rattle.rules.specs.Lent.{Lent}
 use Rattle.rules.specs.Types.{row_at, sampled}
 use Rattle.rules.specs.Purge.{Run}
-use Rattle.rules.specs.Run.{settled, full, phaseTwo}
+use Rattle.rules.specs.Run.{settled, full, phase_two}
 use Rattle.rules.specs.declared.Answer.{Answer}
 use Rattle.rules.specs.declared.Answer.TheVariants.{Done, Area, Head, Rows, Width, Layout, Weight, State, Types, Room, Split}
 use Rattle.readback.specs.Runs.{Runs}
@@ -22,10 +22,10 @@ Outside low high x = (x < low) ⊎ (high < x)
 
 -- RULES 4.5: the place of LAYOUT.
 pub data WrongField (job : Bytes) : ℕ → Type 0 where
-  weights-offset : word job 6 ≢ 12 → WrongField job 6
-  states-offset : word job 6 ≡ 12 → word job 8 ≢ 12 + 2 * width job → WrongField job 8
-  whole_length : word job 6 ≡ 12 → word job 8 ≡ 12 + 2 * width job → word job 10 ≢ 12 + 2 * width job + rows job * width job → WrongField job 10
-  bytes-lent : word job 6 ≡ 12 → word job 8 ≡ 12 + 2 * width job → word job 10 ≡ 12 + 2 * width job + rows job * width job →
+  weights_offset_wrong : word job 6 ≢ 12 → WrongField job 6
+  states_offset_wrong : word job 6 ≡ 12 → word job 8 ≢ 12 + 2 * width job → WrongField job 8
+  whole_length_wrong : word job 6 ≡ 12 → word job 8 ≡ 12 + 2 * width job → word job 10 ≢ 12 + 2 * width job + rows job * width job → WrongField job 10
+  bytes_lent : word job 6 ≡ 12 → word job 8 ≡ 12 + 2 * width job → word job 10 ≡ 12 + 2 * width job + rows job * width job →
       length job ≢ 12 + 2 * width job + rows job * width job → WrongField job 12
 
 -- RULES 4.7: the place of TYPES.
@@ -42,11 +42,11 @@ Condition lent job Head = length job < 12
 Condition lent job Rows = (rows job ≡ 0) ⊎ (256 < rows job)
 Condition lent job Width = (width job ≡ 0) ⊎ (64 < width job)
 Condition lent job (Layout place) = WrongField job place
-Condition lent job (Weight column) = FirstWhere (width job) (λ c. (weightAt job c ≡ 0) ⊎ (1000 < weightAt job c)) column
-Condition lent job (State place) = FirstWhere (rows job * width job) (λ i. Outside 33 126 (stateAt job i)) place
-Condition lent job (Types row) = Type129 (jobRows job) row
+Condition lent job (Weight column) = FirstWhere (width job) (λ c. (weight_at job c ≡ 0) ⊎ (1000 < weight_at job c)) column
+Condition lent job (State place) = FirstWhere (rows job * width job) (λ i. Outside 33 126 (state_at job i)) place
+Condition lent job (Types row) = Type129 (job_rows job) row
 Condition lent job (Room round) = Runs job (full round)
-Condition lent job Split = (run : Run) × Runs job (settled run) × ¬ JoinsAll (phaseTwo (weights job) run)
+Condition lent job Split = (run : Run) × Runs job (settled run) × ¬ JoinsAll (phase_two (weights job) run)
 
 -- RULES 4.2: the order in which they are tried.
 abbrev pub order : Answer → ℕ

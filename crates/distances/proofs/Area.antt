@@ -56,11 +56,11 @@ pub record Passed (by : ℕ → ℕ → ℕ) (asked : Asked) (k i j : ℕ) : Typ
   pub is : asked i j
   pub below : by i j < k
 
-abbrev pub byLine : ℕ → ℕ → ℕ
-byLine i j = i
+abbrev pub by_line : ℕ → ℕ → ℕ
+by_line i j = i
 
-abbrev pub byColumn : ℕ → ℕ → ℕ
-byColumn i j = j
+abbrev pub by_column : ℕ → ℕ → ℕ
+by_column i j = j
 
 -- A turn from k to m writes the part that is passed between them.
 pub record Stride (by : ℕ → ℕ → ℕ) (asked part : Asked) (k m : ℕ) : Type 0 where
@@ -111,7 +111,7 @@ written_once {asked} {f} {before} {a} {b} narrow dec w x = ext_get_or 0 a b (w.s
 pub new-narrow : (from to : ℕ) → to ≤ 128 → Narrow (New from to)
 new-narrow from to h i j t = omega (arith, t.last)
 
-pub new-dec : (from to i j : ℕ) → Dec (New from to i j)
-new-dec from to i j =
+pub new_dec : (from to i j : ℕ) → Dec (New from to i j)
+new_dec from to i j =
     map_dec (λ t. record { rising = t.0; first = t.1.0; last = t.1.1 }) (λ t. (t.rising, (t.first, t.last)))
     (Dec.and (dec_lt i j) (Dec.and (dec_le from j) (dec_lt j to)))

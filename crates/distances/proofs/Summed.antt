@@ -11,8 +11,8 @@ use Rattle.graph.proofs.Below.{sum_more}
 use Rattle.rules.specs.Job.{Bytes}
 use Rattle.rules.specs.Distance.{difference, distance}
 use Rattle.types.specs.State.{stored_at}
-use Rattle.types.proofs.State.{storedAt-state}
-use Rattle.distances.specs.Area.{Weighed, storedApart}
+use Rattle.types.proofs.State.{stored_at-state}
+use Rattle.distances.specs.Area.{Weighed, stored_apart}
 
 module _ (ws : List ℕ) (states : Bytes) (i j : ℕ) where
   pub record Summed (c s : ℕ) : Type 0 where
@@ -20,13 +20,13 @@ module _ (ws : List ℕ) (states : Bytes) (i j : ℕ) where
     pub so_far : s ≡ sum c (difference ws (stored_at states i) (stored_at states j))
     pub small : s ≤ 1000 * c
 
-  pub none-summed : Summed 0 0
+  pub none_summed : Summed 0 0
   unfolding sum
-  none-summed = record { passed = omega arith; so_far = refl; small = omega arith }
+  none_summed = record { passed = omega arith; so_far = refl; small = omega arith }
 
-  pub all-summed : Weighed ws → (c s : ℕ) → 64 ≤ c → Summed c s → s ≡ storedApart ws states i j
+  pub all_summed : Weighed ws → (c s : ℕ) → 64 ≤ c → Summed c s → s ≡ stored_apart ws states i j
   unfolding distance
-  all-summed w c s h t =
+  all_summed w c s h t =
       let all : c ≡ length ws = omega (arith, t.passed, w.size) in
       rw all at t.so_far
 
@@ -44,6 +44,6 @@ module _ (ws : List ℕ) (states : Bytes) (i j : ℕ) where
       let few = cond-at-most (eqb (get_or states (64 * i + c) 0) (get_or states (64 * j + c) 0)) (get_or ws c 0) in
       record {
         passed = omega arith;
-        so_far = rw (sum_more, storedAt-state states i c h, storedAt-state states j c h) (ap (λ (k : ℕ). k + counts c) t.so_far);
+        so_far = rw (sum_more, stored_at-state states i c h, stored_at-state states j c h) (ap (λ (k : ℕ). k + counts c) t.so_far);
         small = omega (arith, t.small, w.at_most c h);
       }

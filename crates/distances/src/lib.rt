@@ -3,8 +3,8 @@
 // area and writes the distance area.
 
 ghost use Rattle.std.specs.Prelude.{◌≡◌, cond, ◌+◌, ◌*◌, ◌≤◌, ◌<◌, eqb, length};
-ghost use Rattle.rules.specs.Sizes.{mostTypes, rowSize, distanceArea};
-ghost use Rattle.distances.specs.Area.{Weighed, CellsWritten, New, storedApart};
+ghost use Rattle.rules.specs.Sizes.{most_types, row_size, distance_area};
+ghost use Rattle.distances.specs.Area.{Weighed, CellsWritten, New, stored_apart};
 
 use rules::{LINE, ROW};
 
@@ -18,8 +18,8 @@ fn counted(x: u8, y: u8, weight: u16) -> u16
 // The distance of two types: the sum of the weights of the characters in which their rows differ. All 64 characters are
 // compared; those past the width weigh nothing.
 pub fn distance(states: &[u8], weights: &[u16], i: usize, j: usize) -> u16
-    requires { Weighed weights.now × (rowSize * i + rowSize ≤ length states.now) × (rowSize * j + rowSize ≤ length states.now) }
-    ensures { result ≡ storedApart weights.now states.now i j }
+    requires { Weighed weights.now × (row_size * i + row_size ≤ length states.now) × (row_size * j + row_size ≤ length states.now) }
+    ensures { result ≡ stored_apart weights.now states.now i j }
 {
     let a = ROW * i;
     let b = ROW * j;
@@ -34,8 +34,8 @@ pub fn distance(states: &[u8], weights: &[u16], i: usize, j: usize) -> u16
 
 // The distances of type j and the types before it.
 fn measure_one(states: &[u8], area: &mut [u16], weights: &[u16], j: usize)
-    requires { Weighed weights.now × (j < mostTypes) × (rowSize * j + rowSize ≤ length states.now) × (distanceArea ≤ length area.old) }
-    ensures { CellsWritten (New j (j + 1)) (storedApart weights.now states.now) area.old area.new }
+    requires { Weighed weights.now × (j < most_types) × (row_size * j + row_size ≤ length states.now) × (distance_area ≤ length area.old) }
+    ensures { CellsWritten (New j (j + 1)) (stored_apart weights.now states.now) area.old area.new }
 {
     let mut i = 0;
     while i < j {
@@ -46,8 +46,8 @@ fn measure_one(states: &[u8], area: &mut [u16], weights: &[u16], j: usize)
 
 // The distances of the types below `to`, from `from` on, and the types before each.
 pub fn measure(states: &[u8], area: &mut [u16], weights: &[u16], from: usize, to: usize)
-    requires { Weighed weights.now × (to ≤ mostTypes) × (rowSize * to ≤ length states.now) × (distanceArea ≤ length area.old) }
-    ensures { CellsWritten (New from to) (storedApart weights.now states.now) area.old area.new }
+    requires { Weighed weights.now × (to ≤ most_types) × (row_size * to ≤ length states.now) × (distance_area ≤ length area.old) }
+    ensures { CellsWritten (New from to) (stored_apart weights.now states.now) area.old area.new }
 {
     let mut j = from;
     while j < to {

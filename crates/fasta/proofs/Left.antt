@@ -14,18 +14,18 @@ use Rattle.rules.proofs.Block.{length-words, length-parts}
 use Rattle.memory.specs.Placed.{placed, Follows}
 use Rattle.memory.proofs.Placed.{placed-padded}
 use Rattle.memory.proofs.Follows.{follows-once, follows_on}
-use Rattle.fasta.specs.Answers.{conversionNumber, refuses}
+use Rattle.fasta.specs.Answers.{conversion_number, refuses}
 use Rattle.fasta.specs.declared.conversion.Conversion.{Conversion}
 use Rattle.fasta.specs.declared.conversion.Conversion.TheVariants.{Done, Short}
 use Rattle.fasta.proofs.conversion.Answers.{refuses-told, passes-told}
 use Rattle.fasta.specs.Sequences.{sequences, sequence, states}
-use Rattle.fasta.specs.Refusals.{checkedText}
+use Rattle.fasta.specs.Refusals.{checked_text}
 use Rattle.fasta.specs.Read.{JobSizeOf}
 use Rattle.fasta.specs.declared.alignment.JobSize.{JobSize}
 use Rattle.fasta.proofs.alignment.Joined.{states-joined}
 use Rattle.fasta.proofs.alignment.Readable.{readable}
-use Rattle.fasta.specs.Block.{jobHeader, weightsOf, job_of}
-use Rattle.fasta.specs.Converted.{jobRoom, conversionOf, jobAfter, Converted}
+use Rattle.fasta.specs.Block.{job_header, weights_of, job_of}
+use Rattle.fasta.specs.Converted.{job_room, conversion_of, job_after, Converted}
 use Rattle.fasta.proofs.JobOf.{width_of, length-job, job-fits}
 use Rattle.fasta.proofs.Written.{length-weights}
 
@@ -33,17 +33,17 @@ use Rattle.fasta.proofs.Written.{length-weights}
 
 -- It is measured as n sequences of m states each.
 pub record Sized (text : Bytes) (n m : ℕ) : Type 0 where
-  pub passes : refuses (checkedText text) ≡ false
+  pub passes : refuses (checked_text text) ≡ false
   pub rows_are : n ≡ sequences text
   pub width_is : m ≡ width_of text
   pub few : n ≤ 256
   pub narrow : m ≤ 64
-  pub states-are : length (states text) ≡ n * m
-  pub room : 12 + 2 * m + n * m ≤ jobRoom
+  pub states_are : length (states text) ≡ n * m
+  pub room : 12 + 2 * m + n * m ≤ job_room
 
-pub sized : {text : Bytes} {size : JobSize} → JobSizeOf text size → conversionNumber size.answer ≡ 0 → Sized text size.rows size.width
+pub sized : {text : Bytes} {size : JobSize} → JobSizeOf text size → conversion_number size.answer ≡ 0 → Sized text size.rows size.width
 sized {text} {size} p e =
-    let f : refuses (checkedText text) ≡ false = rw p.answer-is at (passes-told size.answer refl e) in
+    let f : refuses (checked_text text) ≡ false = rw p.answer_is at (passes-told size.answer refl e) in
     let r = readable text f in
     let n : size.rows ≡ sequences text = p.rows_are ∙ rw f in
     let m : size.width ≡ width_of text = p.width_is ∙ rw f in
@@ -53,12 +53,12 @@ sized {text} {size} p e =
       width_is = m;
       few = rw n r.few;
       narrow = rw m r.narrow;
-      states-are = rw (states-joined text r.clear, n, m) (length-parts (width_of text) (sequences text) (sequence text) r.even);
+      states_are = rw (states-joined text r.clear, n, m) (length-parts (width_of text) (sequences text) (sequence text) r.even);
       room = rw (n, m) (rw length-job at (job-fits 0 text r));
     }
 
 -- Its job: head, weights and states.
-job-parts : {text : Bytes} {n m : ℕ} (e : ℕ) → Sized text n m → job_of e text ≡ words (jobHeader n m e) ++ weightsOf m ++ states text
+job-parts : {text : Bytes} {n m : ℕ} (e : ℕ) → Sized text n m → job_of e text ≡ words (job_header n m e) ++ weights_of m ++ states text
 unfolding job_of
 job-parts {text} e s = rw (s.rows_are, s.width_is, states-joined text (readable text s.passes).clear)
 
@@ -67,31 +67,31 @@ job-parts {text} e s = rw (s.rows_are, s.width_is, states-joined text (readable 
 -- The lent job holds zeros first.
 module _ (text : Bytes) (e lent : ℕ) {zeros : Bytes} (z : zeros ≡ replicate lent 0) where
   -- They are left as they are where the text is refused.
-  zeros-left : {a : Conversion} → a ≡ conversionOf lent e text → refuses a ≡ true → Converted text e lent zeros a
-  unfolding jobAfter
+  zeros-left : {a : Conversion} → a ≡ conversion_of lent e text → refuses a ≡ true → Converted text e lent zeros a
+  unfolding job_after
   zeros-left t r = record { answered = t; left = z ∙ rw (← t, r, sub-zero) }
 
-  pub short-left : lent < jobRoom → Converted text e lent zeros Short
-  unfolding conversionOf
-  short-left h = zeros-left (rw (lt-ltb lent jobRoom h)) refl
+  pub short-left : lent < job_room → Converted text e lent zeros Short
+  unfolding conversion_of
+  short-left h = zeros-left (rw (lt-ltb lent job_room h)) refl
 
-  module _ (h : jobRoom ≤ lent) where
-    pub refusal-left : {a : Conversion} → a ≡ checkedText text → conversionNumber a ≢ 0 → Converted text e lent zeros a
-    unfolding conversionOf
+  module _ (h : job_room ≤ lent) where
+    pub refusal-left : {a : Conversion} → a ≡ checked_text text → conversion_number a ≢ 0 → Converted text e lent zeros a
+    unfolding conversion_of
     refusal-left {a} a-is f =
         let r = refuses-told a refl f in
-        zeros-left (a-is ∙ rw (le-ltb lent jobRoom h, ← a-is, r)) r
+        zeros-left (a-is ∙ rw (le-ltb lent job_room h, ← a-is, r)) r
 
     -- The head, and each part behind the one before.
-    pub job-left : {n m : ℕ} {b₁ b₂ b₃ : Bytes} → Sized text n m → b₁ ≡ placed zeros 0 (words (jobHeader n m e)) → b₂ ≡ placed b₁ 12 (weightsOf m) →
+    pub job-left : {n m : ℕ} {b₁ b₂ b₃ : Bytes} → Sized text n m → b₁ ≡ placed zeros 0 (words (job_header n m e)) → b₂ ≡ placed b₁ 12 (weights_of m) →
         b₃ ≡ placed b₂ (12 + 2 * m) (states text) → Converted text e lent b₃ (Done (12 + 2 * m + n * m))
-    unfolding conversionOf jobAfter
+    unfolding conversion_of job_after
     job-left {n} {m} {b₁} {b₂} s head weights behind =
         let room : 0 ≤ length zeros = omega arith in
-        let one : Follows zeros 0 (words (jobHeader n m e)) b₁ 12 = record { is = head; behind = omega (arith, length-words (jobHeader n m e)) } in
-        let two : Follows b₁ 12 (weightsOf m) b₂ (12 + 2 * m) = record { is = weights; behind = omega (arith, length-weights m) } in
+        let one : Follows zeros 0 (words (job_header n m e)) b₁ 12 = record { is = head; behind = omega (arith, length-words (job_header n m e)) } in
+        let two : Follows b₁ 12 (weights_of m) b₂ (12 + 2 * m) = record { is = weights; behind = omega (arith, length-weights m) } in
         let all = follows_on (follows_on one room two) room (follows-once behind) in
         record {
-          answered = rw (le-ltb lent jobRoom h, s.passes, length-job e text (readable text s.passes), s.rows_are, s.width_is);
-          left = all.is ∙ rw (z, le-ltb lent jobRoom h, s.passes, job-parts e s) (placed-padded lent _);
+          answered = rw (le-ltb lent job_room h, s.passes, length-job e text (readable text s.passes), s.rows_are, s.width_is);
+          left = all.is ∙ rw (z, le-ltb lent job_room h, s.passes, job-parts e s) (placed-padded lent _);
         }

@@ -17,26 +17,26 @@ abbrev pub byte_at : Bytes → ℕ → ℕ
 byte_at text i = get_or text i 0
 
 -- RULES 18.2: the bytes of a line's end: an LF, and a CR if an LF stands behind it. A CR as the last byte of the text is none of them.
-abbrev pub endsLine : Bytes → ℕ → Bool
-endsLine text i = eqb (byte_at text i) lf || (eqb (byte_at text i) cr && eqb (byte_at text (i + 1)) lf)
+abbrev pub ends_line : Bytes → ℕ → Bool
+ends_line text i = eqb (byte_at text i) lf || (eqb (byte_at text i) cr && eqb (byte_at text (i + 1)) lf)
 
 -- RULES 18.2: where the line of a byte starts: at the first byte of the text, or behind an LF.
-unfoldable pub lineStart : Bytes → ℕ → ℕ
-lineStart text zero = 0
-lineStart text (suc i) = cond (eqb (byte_at text i) lf) (suc i) (lineStart text i)
+unfoldable pub line_start : Bytes → ℕ → ℕ
+line_start text zero = 0
+line_start text (suc i) = cond (eqb (byte_at text i) lf) (suc i) (line_start text i)
 
 -- RULES 18.3: a byte stands in a header line; it is the first byte of one, and so opens a sequence.
-abbrev pub inHeader : Bytes → ℕ → Bool
-inHeader text i = eqb (byte_at text (lineStart text i)) opener
+abbrev pub in_header : Bytes → ℕ → Bool
+in_header text i = eqb (byte_at text (line_start text i)) opener
 
 abbrev pub opens : Bytes → ℕ → Bool
-opens text i = eqb (lineStart text i) i && inHeader text i
+opens text i = eqb (line_start text i) i && in_header text i
 
 -- RULES 18.3, 18.4: any other byte is meant as a state, unless it belongs to a line's end. Refusal 22 asks whether it is one.
-abbrev pub isState : Bytes → ℕ → Bool
-isState text i = not (inHeader text i) && not (endsLine text i)
+abbrev pub is_state : Bytes → ℕ → Bool
+is_state text i = not (in_header text i) && not (ends_line text i)
 
 -- Byte i is one of the text, and its line starts at `line`.
 pub record AtByte (text : Bytes) (line i : ℕ) : Type 0 where
-  pub starts : line ≡ lineStart text i
+  pub starts : line ≡ line_start text i
   pub within : i < length text

@@ -2,9 +2,9 @@
 
 ghost use Rattle.std.specs.Prelude.{◌≡◌, true, ◌+◌, ◌≤◌, length, get_or, replicate};
 ghost use Rattle.graph.specs.Below.{first};
-ghost use Rattle.rules.specs.Sizes.{mostRows};
+ghost use Rattle.rules.specs.Sizes.{most_rows};
 ghost use Rattle.rules.specs.Job.{outside};
-ghost use Rattle.fasta.specs.Lines.{isState, AtByte};
+ghost use Rattle.fasta.specs.Lines.{is_state, AtByte};
 ghost use Rattle.fasta.specs.Sequences.{opened};
 ghost use Rattle.fasta.specs.Read.{CountedTo, Taken, ReadAll, JobSizeOf};
 
@@ -18,7 +18,7 @@ const FULL: u8 = MOST_WIDTH as u8;
 
 // How many sequences are opened before the next byte, when `begun` are before this one.
 fn next_begun(text: &[u8], line: usize, i: usize, begun: usize) -> usize
-    requires { AtByte text.now line i × (begun ≡ opened text.now i) × (begun ≤ mostRows) }
+    requires { AtByte text.now line i × (begun ≡ opened text.now i) × (begun ≤ most_rows) }
     ensures { result ≡ opened text.now (i + 1) }
 {
     if opens(text, line, i) {
@@ -29,7 +29,7 @@ fn next_begun(text: &[u8], line: usize, i: usize, begun: usize) -> usize
 
 // Byte i is a state: the fault that it is, or none, and then it is counted.
 fn take_state(text: &[u8], i: usize, begun: usize, lengths: &mut [u8]) -> Conversion
-    requires { (isState text.now i ≡ true) × CountedTo text.now i begun lengths.old }
+    requires { (is_state text.now i ≡ true) × CountedTo text.now i begun lengths.old }
     ensures { Taken text.now i lengths.new result }
 {
     if begun == 0 {
@@ -73,7 +73,7 @@ struct Reading {
 
 // Reads up to the first fault, and counts the states of each sequence.
 fn read_all(text: &[u8], lengths: &mut [u8]) -> Reading
-    requires { lengths.old ≡ replicate mostRows 0 }
+    requires { lengths.old ≡ replicate most_rows 0 }
     ensures { ReadAll text.now lengths.new result }
 {
     let mut begun = 0;

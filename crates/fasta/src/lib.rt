@@ -8,12 +8,12 @@ pub mod lines;
 
 ghost use Rattle.std.specs.Prelude.{◌≡◌, ◌+◌, ◌*◌, ◌≤◌, length};
 ghost use Rattle.graph.specs.Below.{only};
-ghost use Rattle.rules.specs.Sizes.{mostRows, mostWidth, jobHead};
+ghost use Rattle.rules.specs.Sizes.{most_rows, most_width, job_head};
 ghost use Rattle.rules.specs.Result.{words};
 ghost use Rattle.memory.specs.Placed.{placed, Follows};
-ghost use Rattle.fasta.specs.Lines.{byte_at, isState, AtByte};
+ghost use Rattle.fasta.specs.Lines.{byte_at, is_state, AtByte};
 ghost use Rattle.fasta.specs.Sequences.{states};
-ghost use Rattle.fasta.specs.Block.{jobHeader, weightsOf};
+ghost use Rattle.fasta.specs.Block.{job_header, weights_of};
 ghost use Rattle.fasta.specs.Converted.{Converted};
 
 use crate::alignment::size_of_job;
@@ -24,8 +24,8 @@ use rules::{JOB_HEAD, LARGEST_JOB};
 
 // The six numbers of the header.
 fn put_job_header(n: usize, m: usize, epsilon: usize, job: &mut [u8])
-    requires { (n ≤ mostRows) × (m ≤ mostWidth) × (epsilon ≤ 65535) × (jobHead ≤ length job.old) }
-    ensures { job.new ≡ placed job.old 0 (words (jobHeader n m epsilon)) }
+    requires { (n ≤ most_rows) × (m ≤ most_width) × (epsilon ≤ 65535) × (job_head ≤ length job.old) }
+    ensures { job.new ≡ placed job.old 0 (words (job_header n m epsilon)) }
 {
     let states = JOB_HEAD + 2 * m;
     let whole = states + n * m;
@@ -35,8 +35,8 @@ fn put_job_header(n: usize, m: usize, epsilon: usize, job: &mut [u8])
 
 // All weights are 1.
 fn put_weights(m: usize, job: &mut [u8])
-    requires { jobHead + 2 * m ≤ length job.old }
-    ensures { job.new ≡ placed job.old jobHead (weightsOf m) }
+    requires { job_head + 2 * m ≤ length job.old }
+    ensures { job.new ≡ placed job.old job_head (weights_of m) }
 {
     let mut c = 0;
     while c < m {
@@ -47,8 +47,8 @@ fn put_weights(m: usize, job: &mut [u8])
 
 // Byte i of the text, where it is a state. What is handed back is the place behind it.
 fn put_state(text: &[u8], line: usize, i: usize, job: &mut [u8], at: usize) -> usize
-    requires { AtByte text.now line i × (at + length (only (isState text.now i) (byte_at text.now i)) ≤ length job.old) }
-    ensures { Follows job.old at (only (isState text.now i) (byte_at text.now i)) job.new result }
+    requires { AtByte text.now line i × (at + length (only (is_state text.now i) (byte_at text.now i)) ≤ length job.old) }
+    ensures { Follows job.old at (only (is_state text.now i) (byte_at text.now i)) job.new result }
 {
     if !is_state(text, line, i) {
         return at;

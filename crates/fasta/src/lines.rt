@@ -2,12 +2,12 @@
 // read.
 
 ghost use Rattle.std.specs.Prelude.{◌≡◌, ◌+◌, ◌<◌, length};
-ghost use Rattle.fasta.specs.Lines.{endsLine, lineStart, opens, isState, AtByte};
+ghost use Rattle.fasta.specs.Lines.{ends_line, line_start, opens, is_state, AtByte};
 
 // Whether a byte belongs to the end of its line.
 fn ends_line(text: &[u8], i: usize) -> bool
     requires { i < length text.now }
-    ensures { result ≡ endsLine text.now i }
+    ensures { result ≡ ends_line text.now i }
 {
     if text[i] == b'\n' {
         return true;
@@ -35,7 +35,7 @@ pub fn opens(text: &[u8], line: usize, i: usize) -> bool
 // Whether a byte is a state.
 pub fn is_state(text: &[u8], line: usize, i: usize) -> bool
     requires { AtByte text.now line i }
-    ensures { result ≡ isState text.now i }
+    ensures { result ≡ is_state text.now i }
 {
     if text[line] == b'>' {
         return false;
@@ -46,7 +46,7 @@ pub fn is_state(text: &[u8], line: usize, i: usize) -> bool
 // Where the line of the next byte starts.
 pub fn next_line(text: &[u8], line: usize, i: usize) -> usize
     requires { AtByte text.now line i }
-    ensures { result ≡ lineStart text.now (i + 1) }
+    ensures { result ≡ line_start text.now (i + 1) }
 {
     if text[i] == b'\n' {
         return i + 1;

@@ -33,9 +33,9 @@ pub same_tests : (a b : Bool) → (a ≡ true → b ≡ true) → (b ≡ true �
 same_tests true b f g = sym (f refl)
 same_tests false b f g = sym (is_false b (λ t. false≢true (g t)))
 
-pub or-true : (a b : Bool) → (a || b ≡ true) ↔ (a ≡ true) ⊎ (b ≡ true)
-or-true true b = (λ e. inl refl, λ s. refl)
-or-true false b = (inr, ⊎_elim (λ e. absurd (false≢true e)) (λ e. e))
+pub or_true : (a b : Bool) → (a || b ≡ true) ↔ (a ≡ true) ⊎ (b ≡ true)
+or_true true b = (λ e. inl refl, λ s. refl)
+or_true false b = (inr, ⊎_elim (λ e. absurd (false≢true e)) (λ e. e))
 
 module _ {A : Type 0} where
   pub table_more : (n : ℕ) (f : ℕ → A) → table (n + 1) f ≡ table n f ++ (f n ∷ [])
@@ -46,20 +46,20 @@ module _ {A : Type 0} where
   unfolding gather
   gather-more n f = rw add-one
 
-  pub table-add : (k n : ℕ) (f : ℕ → A) → table (k + n) f ≡ table k f ++ table n (λ i. f (k + i))
+  pub table_add : (k n : ℕ) (f : ℕ → A) → table (k + n) f ≡ table k f ++ table n (λ i. f (k + i))
   unfolding table
-  table-add k zero f = rw (add-zero, append-nil)
-  table-add k (suc n) f = rw (add-suc, table, table-add k n f, append_assoc)
+  table_add k zero f = rw (add-zero, append-nil)
+  table_add k (suc n) f = rw (add-suc, table, table_add k n f, append_assoc)
 
-  pub gather-add : (k n : ℕ) (f : ℕ → List A) → gather (k + n) f ≡ gather k f ++ gather n (λ i. f (k + i))
+  pub gather_add : (k n : ℕ) (f : ℕ → List A) → gather (k + n) f ≡ gather k f ++ gather n (λ i. f (k + i))
   unfolding gather
-  gather-add k zero f = rw (add-zero, append-nil)
-  gather-add k (suc n) f = rw (add-suc, gather, gather-add k n f, append_assoc)
+  gather_add k zero f = rw (add-zero, append-nil)
+  gather_add k (suc n) f = rw (add-suc, gather, gather_add k n f, append_assoc)
 
-  pub table-ext : (n : ℕ) (f g : ℕ → A) → ((i : ℕ) → i < n → f i ≡ g i) → table n f ≡ table n g
+  pub table_ext : (n : ℕ) (f g : ℕ → A) → ((i : ℕ) → i < n → f i ≡ g i) → table n f ≡ table n g
   unfolding table
-  table-ext zero f g e = refl
-  table-ext (suc n) f g e = rw (table-ext n f g (λ i h. e i (omega arith)), e n (omega arith))
+  table_ext zero f g e = refl
+  table_ext (suc n) f g e = rw (table_ext n f g (λ i h. e i (omega arith)), e n (omega arith))
 
   pub gather_ext : (n : ℕ) (f g : ℕ → List A) → ((i : ℕ) → i < n → f i ≡ g i) → gather n f ≡ gather n g
   unfolding gather
@@ -76,15 +76,15 @@ module _ {A : Type 0} where
   length-gather zero f = refl
   length-gather (suc n) f = rw (length-append, length-gather n f)
 
-  pub getD-table : (n : ℕ) (f : ℕ → A) (i : ℕ) (x : A) → i < n → get_or (table n f) i x ≡ f i
+  pub get_or-table : (n : ℕ) (f : ℕ → A) (i : ℕ) (x : A) → i < n → get_or (table n f) i x ≡ f i
   unfolding table
-  getD-table (suc n) f i x h =
+  get_or-table (suc n) f i x h =
       last_or (λ j. get_or (table (suc n) f) j x ≡ f j) n i h (get_or_at (table n f) (f n) [] x n (length-table n f))
-      (λ l. get_or-append (table n f) _ x i (rw length-table l) ∙ getD-table n f i x l)
+      (λ l. get_or-append (table n f) _ x i (rw length-table l) ∙ get_or-table n f i x l)
 
-  pub table-getD : (xs : List A) (x : A) → table (length xs) (λ i. get_or xs i x) ≡ xs
-  table-getD xs x =
-      ext_get_or x _ xs (length-table _ _) (λ i h. getD-table (length xs) _ i x (rw length-table at h))
+  pub table-get_or : (xs : List A) (x : A) → table (length xs) (λ i. get_or xs i x) ≡ xs
+  table-get_or xs x =
+      ext_get_or x _ xs (length-table _ _) (λ i h. get_or-table (length xs) _ i x (rw length-table at h))
 
   -- x is one of the list's elements.
   abbrev pub In : A → List A → Type 0
@@ -104,32 +104,32 @@ module _ {A : Type 0} where
   in_parts x (y ∷ xs) ys (inl e) = inl (inl e)
   in_parts x (y ∷ xs) ys (inr h) = ⊎_map inr (λ g. g) (in_parts x xs ys h)
 
-  pub in-append : (x : A) (xs ys : List A) → In x (xs ++ ys) ↔ In x xs ⊎ In x ys
-  in-append x xs ys = (in_parts x xs ys, ⊎_elim (in_left x xs ys) (in_right x xs ys))
+  pub in_append : (x : A) (xs ys : List A) → In x (xs ++ ys) ↔ In x xs ⊎ In x ys
+  in_append x xs ys = (in_parts x xs ys, ⊎_elim (in_left x xs ys) (in_right x xs ys))
 
   -- An element of a gather, and the number whose list has it.
-  pub in-gather : (x : A) (n : ℕ) (f : ℕ → List A) → In x (gather n f) ↔ ((i : ℕ) × (i < n) × In x (f i))
+  pub in_gather : (x : A) (n : ℕ) (f : ℕ → List A) → In x (gather n f) ↔ ((i : ℕ) × (i < n) × In x (f i))
   unfolding gather
-  in-gather x zero f = (absurd, λ s. absurd (not-suc-le-zero s.1))
-  in-gather x (suc n) f = (
-    λ h. ⊎_elim (λ l. let s = (in-gather x n f).0 l in (s.0, omega arith, s.2)) (λ r. (n, omega arith, r)) (in_parts x (gather n f) (f n) h),
+  in_gather x zero f = (absurd, λ s. absurd (not-suc-le-zero s.1))
+  in_gather x (suc n) f = (
+    λ h. ⊎_elim (λ l. let s = (in_gather x n f).0 l in (s.0, omega arith, s.2)) (λ r. (n, omega arith, r)) (in_parts x (gather n f) (f n) h),
     λ s. last_or (λ i. In x (f i) → In x (gather (suc n) f)) n s.0 s.1 (in_right x (gather n f) (f n))
-        (λ l g. in_left x (gather n f) (f n) ((in-gather x n f).1 (s.0, l, g))) s.2,
+        (λ l g. in_left x (gather n f) (f n) ((in_gather x n f).1 (s.0, l, g))) s.2,
   )
 
-  pub in-given : (x : A) (t : Bool) (xs : List A) → In x (given t xs) ↔ ((t ≡ true) × In x xs)
-  in-given x true xs = (λ h. (refl, h), λ s. s.1)
-  in-given x false xs = (absurd, λ s. absurd (false≢true s.0))
+  pub in_given : (x : A) (t : Bool) (xs : List A) → In x (given t xs) ↔ ((t ≡ true) × In x xs)
+  in_given x true xs = (λ h. (refl, h), λ s. s.1)
+  in_given x false xs = (absurd, λ s. absurd (false≢true s.0))
 
-  pub in-only : (x : A) (t : Bool) (y : A) → In x (only t y) ↔ ((t ≡ true) × (x ≡ y))
-  in-only x t y =
-      let g = in-given x t (y ∷ []) in
+  pub in_only : (x : A) (t : Bool) (y : A) → In x (only t y) ↔ ((t ≡ true) × (x ≡ y))
+  in_only x t y =
+      let g = in_given x t (y ∷ []) in
       (λ h. let s = g.0 h in (s.0, ⊎_elim (λ e. e) absurd s.1), λ s. g.1 (s.0, inl s.1))
 
-  pub in-at : (xs : List A) (i : ℕ) (d : A) → i < length xs → In (get_or xs i d) xs
-  in-at [] i d h = absurd (not-suc-le-zero h)
-  in-at (x ∷ xs) zero d h = inl refl
-  in-at (x ∷ xs) (suc i) d h = inr (in-at xs i d (omega arith))
+  pub in_at : (xs : List A) (i : ℕ) (d : A) → i < length xs → In (get_or xs i d) xs
+  in_at [] i d h = absurd (not-suc-le-zero h)
+  in_at (x ∷ xs) zero d h = inl refl
+  in_at (x ∷ xs) (suc i) d h = inr (in_at xs i d (omega arith))
 
   -- Where an element stands.
   pub in_place : (x : A) (xs : List A) → In x xs → (i : ℕ) × (i < length xs) × ((d : A) → get_or xs i d ≡ x)
@@ -139,19 +139,19 @@ module _ {A : Type 0} where
   pub in_table : (x : A) (n : ℕ) (f : ℕ → A) → In x (table n f) ↔ ((i : ℕ) × (i < n) × (x ≡ f i))
   in_table x n f = (
     λ h. let s = in_place x (table n f) h in let l : s.0 < n = (rw length-table at s).1 in
-        (s.0, l, sym (s.2 x) ∙ getD-table n f s.0 x l),
-    λ s. rw (s.2, ← getD-table n f s.0 x s.1) (in-at (table n f) s.0 x (rw length-table s.1)),
+        (s.0, l, sym (s.2 x) ∙ get_or-table n f s.0 x l),
+    λ s. rw (s.2, ← get_or-table n f s.0 x s.1) (in_at (table n f) s.0 x (rw length-table s.1)),
   )
 
-pub in-replicate : {A : Type 0} (x a : A) (n : ℕ) → In x (replicate n a) → x ≡ a
-in-replicate x a (suc n) (inl e) = e
-in-replicate x a (suc n) (inr h) = in-replicate x a n h
+pub in_replicate : {A : Type 0} (x a : A) (n : ℕ) → In x (replicate n a) → x ≡ a
+in_replicate x a (suc n) (inl e) = e
+in_replicate x a (suc n) (inr h) = in_replicate x a n h
 
 -- What holds of a list's element at each place holds of each that is in it, and the other way round.
 pub each-place : {A : Type 0} (P : A → Type 0) (xs : List A) (d : A) → ((i : ℕ) → i < length xs → P (get_or xs i d)) ↔ ((x : A) → In x xs → P x)
 each-place P xs d = (
   λ f x h. let (i, l, at) = in_place x xs h in rw (at d) at (f i l),
-  λ f i l. f _ (in-at xs i d l),
+  λ f i l. f _ (in_at xs i d l),
 )
 
 -- What is kept of a list by a test on its elements.
@@ -159,10 +159,10 @@ pub in_kept : {A B : Type 0} (p : A → Bool) (g : A → B) (xs : List A) (d : A
     In y (gather (length xs) (λ k. only (p (get_or xs k d)) (g (get_or xs k d)))) ↔ ((x : A) × In x xs × (p x ≡ true) × (y ≡ g x))
 in_kept {A} {B} p g xs d y =
     let f : ℕ → List B = λ k. only (p (get_or xs k d)) (g (get_or xs k d)) in
-    let s = in-gather y (length xs) f in (
-      λ h. let (k, l, i) = s.0 h in let (t, e) = (in-only y (p (get_or xs k d)) (g (get_or xs k d))).0 i in (get_or xs k d, in-at xs k d l, t, e),
+    let s = in_gather y (length xs) f in (
+      λ h. let (k, l, i) = s.0 h in let (t, e) = (in_only y (p (get_or xs k d)) (g (get_or xs k d))).0 i in (get_or xs k d, in_at xs k d l, t, e),
       λ r. let (k, l, at) = in_place r.0 xs r.1 in
-          s.1 (k, l, (in-only y (p (get_or xs k d)) (g (get_or xs k d))).1 (rw (at d) r.2, r.3 ∙ ap g (sym (at d)))),
+          s.1 (k, l, (in_only y (p (get_or xs k d)) (g (get_or xs k d))).1 (rw (at d) r.2, r.3 ∙ ap g (sym (at d)))),
     )
 
 -- A list of no length is empty.
@@ -191,30 +191,30 @@ pub every_more : (n : ℕ) (p : ℕ → Bool) → every (n + 1) p ≡ (every n p
 unfolding every
 every_more n p = rw add-one
 
-pub some-ext : (n : ℕ) (p q : ℕ → Bool) → ((i : ℕ) → i < n → p i ≡ q i) → some n p ≡ some n q
+pub some_ext : (n : ℕ) (p q : ℕ → Bool) → ((i : ℕ) → i < n → p i ≡ q i) → some n p ≡ some n q
 unfolding some
-some-ext zero p q e = refl
-some-ext (suc n) p q e = rw (some-ext n p q (λ i h. e i (omega arith)), e n (omega arith))
+some_ext zero p q e = refl
+some_ext (suc n) p q e = rw (some_ext n p q (λ i h. e i (omega arith)), e n (omega arith))
 
-pub every-ext : (n : ℕ) (p q : ℕ → Bool) → ((i : ℕ) → i < n → p i ≡ q i) → every n p ≡ every n q
+pub every_ext : (n : ℕ) (p q : ℕ → Bool) → ((i : ℕ) → i < n → p i ≡ q i) → every n p ≡ every n q
 unfolding every
-every-ext zero p q e = refl
-every-ext (suc n) p q e = rw (every-ext n p q (λ i h. e i (omega arith)), e n (omega arith))
+every_ext zero p q e = refl
+every_ext (suc n) p q e = rw (every_ext n p q (λ i h. e i (omega arith)), e n (omega arith))
 
-pub some-true : (n : ℕ) (p : ℕ → Bool) → (some n p ≡ true) ↔ ((i : ℕ) × (i < n) × (p i ≡ true))
+pub some_true : (n : ℕ) (p : ℕ → Bool) → (some n p ≡ true) ↔ ((i : ℕ) × (i < n) × (p i ≡ true))
 unfolding some
-some-true zero p = (λ e. absurd (false≢true e), λ s. absurd (not-suc-le-zero s.1))
-some-true (suc n) p =
-    let o = or-true (some n p) (p n) in (
-      λ e. ⊎_elim (λ l. let s = (some-true n p).0 l in (s.0, omega arith, s.2)) (λ r. (n, omega arith, r)) (o.0 e),
+some_true zero p = (λ e. absurd (false≢true e), λ s. absurd (not-suc-le-zero s.1))
+some_true (suc n) p =
+    let o = or_true (some n p) (p n) in (
+      λ e. ⊎_elim (λ l. let s = (some_true n p).0 l in (s.0, omega arith, s.2)) (λ r. (n, omega arith, r)) (o.0 e),
       λ s. last_or (λ i. p i ≡ true → some (suc n) p ≡ true) n s.0 s.1 (λ e. o.1 (inr e))
-          (λ l e. o.1 (inl ((some-true n p).1 (s.0, l, e)))) s.2,
+          (λ l e. o.1 (inl ((some_true n p).1 (s.0, l, e)))) s.2,
     )
 
-pub some-false : (n : ℕ) (p : ℕ → Bool) → (some n p ≡ false) ↔ ((i : ℕ) → i < n → p i ≡ false)
-some-false n p = (
-  λ e i h. is_false (p i) (λ t. false≢true (sym e ∙ (some-true n p).1 (i, h, t))),
-  λ f. is_false (some n p) (λ t. let s = (some-true n p).0 t in false≢true (sym (f s.0 s.1) ∙ s.2)),
+pub some_false : (n : ℕ) (p : ℕ → Bool) → (some n p ≡ false) ↔ ((i : ℕ) → i < n → p i ≡ false)
+some_false n p = (
+  λ e i h. is_false (p i) (λ t. false≢true (sym e ∙ (some_true n p).1 (i, h, t))),
+  λ f. is_false (some n p) (λ t. let s = (some_true n p).0 t in false≢true (sym (f s.0 s.1) ∙ s.2)),
 )
 
 pub every_true : (n : ℕ) (p : ℕ → Bool) → (every n p ≡ true) ↔ ((i : ℕ) → i < n → p i ≡ true)
@@ -230,20 +230,20 @@ pub sum_more : (n : ℕ) (f : ℕ → ℕ) → sum (n + 1) f ≡ sum n f + f n
 unfolding sum
 sum_more n f = rw add-one
 
-pub sum-add : (k n : ℕ) (f : ℕ → ℕ) → sum (k + n) f ≡ sum k f + sum n (λ i. f (k + i))
+pub sum_add : (k n : ℕ) (f : ℕ → ℕ) → sum (k + n) f ≡ sum k f + sum n (λ i. f (k + i))
 unfolding sum
-sum-add k zero f = rw (add-zero k, add-zero (sum k f))
-sum-add k (suc n) f = rw (add-suc, sum, sum-add k n f) (omega arith)
+sum_add k zero f = rw (add-zero k, add-zero (sum k f))
+sum_add k (suc n) f = rw (add-suc, sum, sum_add k n f) (omega arith)
 
-pub sum-ext : (n : ℕ) (f g : ℕ → ℕ) → ((i : ℕ) → i < n → f i ≡ g i) → sum n f ≡ sum n g
+pub sum_ext : (n : ℕ) (f g : ℕ → ℕ) → ((i : ℕ) → i < n → f i ≡ g i) → sum n f ≡ sum n g
 unfolding sum
-sum-ext zero f g e = refl
-sum-ext (suc n) f g e = rw (sum-ext n f g (λ i h. e i (omega arith)), e n (omega arith))
+sum_ext zero f g e = refl
+sum_ext (suc n) f g e = rw (sum_ext n f g (λ i h. e i (omega arith)), e n (omega arith))
 
-pub sum-le : (n : ℕ) (f g : ℕ → ℕ) → ((i : ℕ) → i < n → f i ≤ g i) → sum n f ≤ sum n g
+pub sum_le : (n : ℕ) (f g : ℕ → ℕ) → ((i : ℕ) → i < n → f i ≤ g i) → sum n f ≤ sum n g
 unfolding sum
-sum-le zero f g l = omega arith
-sum-le (suc n) f g l = omega (arith, sum-le n f g (λ i h. l i (omega arith)), l n (omega arith))
+sum_le zero f g l = omega arith
+sum_le (suc n) f g l = omega (arith, sum_le n f g (λ i h. l i (omega arith)), l n (omega arith))
 
 -- n terms of at most k.
 pub sum_bound : (n k : ℕ) (f : ℕ → ℕ) → ((i : ℕ) → i < n → f i ≤ k) → sum n f ≤ n * k
@@ -251,33 +251,33 @@ unfolding sum
 sum_bound zero k f l = omega arith
 sum_bound (suc n) k f l = omega (arith, suc-mul n k, sum_bound n k f (λ i h. l i (omega arith)), l n (omega arith))
 
-pub sum-zero : (n : ℕ) (f : ℕ → ℕ) → ((i : ℕ) → i < n → f i ≡ 0) → sum n f ≡ 0
+pub sum_zero : (n : ℕ) (f : ℕ → ℕ) → ((i : ℕ) → i < n → f i ≡ 0) → sum n f ≡ 0
 unfolding sum
-sum-zero zero f z = refl
-sum-zero (suc n) f z = omega (arith, sum-zero n f (λ i h. z i (omega arith)), z n (omega arith))
+sum_zero zero f z = refl
+sum_zero (suc n) f z = omega (arith, sum_zero n f (λ i h. z i (omega arith)), z n (omega arith))
 
 -- A sum whose terms are all 0 but one is that term.
 pub sum_one : (n : ℕ) (f : ℕ → ℕ) (k : ℕ) → k < n → ((i : ℕ) → i < n → i ≢ k → f i ≡ 0) → sum n f ≡ f k
 unfolding sum
 sum_one (suc n) f k h z = elim (ℕ_discrete k n) [
-  | yes e ↦ rw e (omega (arith, sum-zero n f (λ i l. z i (omega arith) (omega arith))))
+  | yes e ↦ rw e (omega (arith, sum_zero n f (λ i l. z i (omega arith) (omega arith))))
   | no ne ↦ omega (arith, sum_one n f k (omega arith) (λ i l. z i (omega arith)), z n (omega arith) (omega arith))
 ]
 
 -- Each term is within the sum.
-pub sum-term : (n : ℕ) (f : ℕ → ℕ) (i : ℕ) → i < n → f i ≤ sum n f
+pub sum_term : (n : ℕ) (f : ℕ → ℕ) (i : ℕ) → i < n → f i ≤ sum n f
 unfolding sum
-sum-term (suc n) f i h = last_or (λ j. f j ≤ sum (suc n) f) n i h (omega arith) (λ l. omega (arith, sum-term n f i l))
+sum_term (suc n) f i h = last_or (λ j. f j ≤ sum (suc n) f) n i h (omega arith) (λ l. omega (arith, sum_term n f i l))
 
-pub sum-plus : (n : ℕ) (f g : ℕ → ℕ) → sum n (λ i. f i + g i) ≡ sum n f + sum n g
+pub sum_plus : (n : ℕ) (f g : ℕ → ℕ) → sum n (λ i. f i + g i) ≡ sum n f + sum n g
 unfolding sum
-sum-plus zero f g = refl
-sum-plus (suc n) f g = omega (arith, sum-plus n f g)
+sum_plus zero f g = refl
+sum_plus (suc n) f g = omega (arith, sum_plus n f g)
 
-pub sum-swap : (n m : ℕ) (f : ℕ → ℕ → ℕ) → sum n (λ i. sum m (λ j. f i j)) ≡ sum m (λ j. sum n (λ i. f i j))
+pub sum_swap : (n m : ℕ) (f : ℕ → ℕ → ℕ) → sum n (λ i. sum m (λ j. f i j)) ≡ sum m (λ j. sum n (λ i. f i j))
 unfolding sum
-sum-swap zero m f = sym (sum-zero m _ (λ i h. refl))
-sum-swap (suc n) m f = rw (sum-plus m (λ j. sum n (λ i. f i j)) (f n), sum-swap n m f)
+sum_swap zero m f = sym (sum_zero m _ (λ i h. refl))
+sum_swap (suc n) m f = rw (sum_plus m (λ j. sum n (λ i. f i j)) (f n), sum_swap n m f)
 
 -- One for a test that passes, and one for its negation if it does not.
 one_of : (t : Bool) → cond t 1 0 + cond (not t) 1 0 ≡ 1
@@ -289,26 +289,26 @@ unfolding sum
 count-not zero p = refl
 count-not (suc n) p = omega (arith, count-not n p, one_of (p n))
 
-pub count-le : (n : ℕ) (p : ℕ → Bool) → count n p ≤ n
-count-le n p = omega (arith, count-not n p)
+pub count_le : (n : ℕ) (p : ℕ → Bool) → count n p ≤ n
+count_le n p = omega (arith, count-not n p)
 
-pub count-ext : (n : ℕ) (p q : ℕ → Bool) → ((i : ℕ) → i < n → p i ≡ q i) → count n p ≡ count n q
-count-ext n p q e = sum-ext n _ _ (λ i h. rw (e i h))
+pub count_ext : (n : ℕ) (p q : ℕ → Bool) → ((i : ℕ) → i < n → p i ≡ q i) → count n p ≡ count n q
+count_ext n p q e = sum_ext n _ _ (λ i h. rw (e i h))
 
-pub count-zero : (n : ℕ) (p : ℕ → Bool) → ((i : ℕ) → i < n → p i ≡ false) → count n p ≡ 0
-count-zero n p z = sum-zero n _ (λ i h. rw (z i h))
+pub count_zero : (n : ℕ) (p : ℕ → Bool) → ((i : ℕ) → i < n → p i ≡ false) → count n p ≡ 0
+count_zero n p z = sum_zero n _ (λ i h. rw (z i h))
 
 -- Number k passes, and no other does.
 pub count-one : (n : ℕ) (p : ℕ → Bool) (k : ℕ) → k < n → p k ≡ true → ((i : ℕ) → i < n → p i ≡ true → i ≡ k) → count n p ≡ 1
 count-one n p k h e u = sum_one n (λ i. cond (p i) 1 0) k h (λ i l ne. rw (is_false (p i) (λ t. ne (u i l t)))) ∙ rw e
 
 pub count-all : (n : ℕ) (p : ℕ → Bool) → ((i : ℕ) → i < n → p i ≡ true) → count n p ≡ n
-count-all n p e = omega (arith, count-not n p, count-zero n (λ i. not (p i)) (λ i h. rw (e i h)))
+count-all n p e = omega (arith, count-not n p, count_zero n (λ i. not (p i)) (λ i h. rw (e i h)))
 
-pub count-pos : (n : ℕ) (p : ℕ → Bool) → (1 ≤ count n p) ↔ ((i : ℕ) × (i < n) × (p i ≡ true))
-count-pos n p = (
-  λ h. (some-true n p).0 (is_true (some n p) (λ e. omega (arith, count-zero n p ((some-false n p).0 e)))),
-  λ s. rw s.2 at (sum-term n (λ i. cond (p i) 1 0) s.0 s.1),
+pub count_pos : (n : ℕ) (p : ℕ → Bool) → (1 ≤ count n p) ↔ ((i : ℕ) × (i < n) × (p i ≡ true))
+count_pos n p = (
+  λ h. (some_true n p).0 (is_true (some n p) (λ e. omega (arith, count_zero n p ((some_false n p).0 e)))),
+  λ s. rw s.2 at (sum_term n (λ i. cond (p i) 1 0) s.0 s.1),
 )
 
 length-only : {A : Type 0} (t : Bool) (x : A) → length (only t x) ≡ cond t 1 0
@@ -317,7 +317,7 @@ length-only false x = refl
 
 -- As many are kept as pass.
 pub length-kept : {A : Type 0} (n : ℕ) (p : ℕ → Bool) (f : ℕ → A) → length (gather n (λ i. only (p i) (f i))) ≡ count n p
-length-kept n p f = length-gather n _ ∙ sum-ext n _ _ (λ i h. length-only (p i) (f i))
+length-kept n p f = length-gather n _ ∙ sum_ext n _ _ (λ i h. length-only (p i) (f i))
 
 -- What is made of those kept is made of them one by one.
 pub map-kept : {A B : Type 0} (f : A → B) (n : ℕ) (p : ℕ → Bool) (g : ℕ → A) →
@@ -340,9 +340,9 @@ module _ {A : Type 0} (p : A → Bool) (d : A) where
       let tests : ℕ → ℕ = λ k. cond (p (get_or (xs ++ ys) k d)) 1 0 in
       rw (
         length-append,
-        sum-add (length xs) (length ys) tests,
-        sum-ext (length xs) tests (λ k. cond (p (get_or xs k d)) 1 0) (λ k h. rw (get_or-append xs ys d k h)),
-        sum-ext (length ys) (λ k. tests (length xs + k)) (λ k. cond (p (get_or ys k d)) 1 0) (λ k h. rw (get_or-append-add xs ys k d)),
+        sum_add (length xs) (length ys) tests,
+        sum_ext (length xs) tests (λ k. cond (p (get_or xs k d)) 1 0) (λ k h. rw (get_or-append xs ys d k h)),
+        sum_ext (length ys) (λ k. tests (length xs + k)) (λ k. cond (p (get_or ys k d)) 1 0) (λ k h. rw (get_or-append-add xs ys k d)),
       )
 
   pub passing-gather : (n : ℕ) (f : ℕ → List A) → passing (gather n f) ≡ sum n (λ i. passing (f i))
@@ -356,7 +356,7 @@ module _ {A : Type 0} (p : A → Bool) (d : A) where
   passing-only false x = refl
 
   pub passing_kept : (n : ℕ) (t : ℕ → Bool) (f : ℕ → A) → passing (gather n (λ i. only (t i) (f i))) ≡ count n (λ i. t i && p (f i))
-  passing_kept n t f = passing-gather n _ ∙ sum-ext n _ _ (λ i h. passing-only (t i) (f i))
+  passing_kept n t f = passing-gather n _ ∙ sum_ext n _ _ (λ i h. passing-only (t i) (f i))
 
 -- k is the first that passes, or n where none does.
 record First (n : ℕ) (p : ℕ → Bool) (k : ℕ) : Type 0 where
@@ -377,14 +377,14 @@ first-first (suc n) p = go (p 0) refl (first-first n (λ i. p (suc i)))
       hits = λ h. r.hits (omega arith);
     }
 
-first-no-later : (n : ℕ) (p : ℕ → Bool) (k l : ℕ) → First n p k → First n p l → k ≤ l
-first-no-later n p k l a b = elim (dec_le k l) [
+first_no_later : (n : ℕ) (p : ℕ → Bool) (k l : ℕ) → First n p k → First n p l → k ≤ l
+first_no_later n p k l a b = elim (dec_le k l) [
   | yes h ↦ h
   | no f ↦ absurd (false≢true (sym (a.before l (omega arith)) ∙ b.hits (omega (arith, a.within))))
 ]
 
-pub first-le : (n : ℕ) (p : ℕ → Bool) → first n p ≤ n
-first-le n p = (first-first n p).within
+pub first_le : (n : ℕ) (p : ℕ → Bool) → first n p ≤ n
+first_le n p = (first-first n p).within
 
 pub first-before : (n : ℕ) (p : ℕ → Bool) (i : ℕ) → i < first n p → p i ≡ false
 first-before n p = (first-first n p).before
@@ -396,4 +396,4 @@ pub first-is : (n : ℕ) (p : ℕ → Bool) (k : ℕ) → k ≤ n → ((i : ℕ)
 first-is n p k w b h =
     let f = first-first n p in
     let g : First n p k = record { within = w; before = b; hits = h } in
-    omega (arith, first-no-later n p _ k f g, first-no-later n p k _ g f)
+    omega (arith, first_no_later n p _ k f g, first_no_later n p k _ g f)

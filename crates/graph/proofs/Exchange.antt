@@ -7,7 +7,7 @@ use native.Mathlib.Omega.{arith}
 use lib.ListN.{length}
 use Rattle.graph.specs.Tree.{Ends, Between, Has, Joined, Tree, cost, Cheapest}
 use Rattle.graph.proofs.Walks.{single, expand}
-use Rattle.graph.proofs.Links.{between, joined_back, inside-cons}
+use Rattle.graph.proofs.Links.{between, joined_back, inside_cons}
 
 -- E with one link l taken out is R.
 pub data Taken (l : Ends) : List Ends → List Ends → Type 0 where
@@ -50,7 +50,7 @@ module _ {l : Ends} where
     -- A link m can take the place of l in a tree, if m and the other links join the ends of l.
     pub exchange : Tree n E → Tree n (m ∷ R)
     exchange T = record {
-      inside = inside-cons n m R from to (λ a b h. T.inside a b (taken_back t a b (inr h)));
+      inside = inside_cons n m R from to (λ a b h. T.inside a b (taken_back t a b (inr h)));
       joins = λ u v hu hv. expand round (T.joins u v hu hv);
       count = omega (arith, taken-length t, T.count);
     }
@@ -60,12 +60,12 @@ module _ {l : Ends} where
             ⊎_elim (between (Joined (m ∷ R)) (λ x y. joined_back (m ∷ R)) l p a b) (λ g. single (inr g)) (taken-apart t a b h)
 
     -- In a cheapest tree, no such m is shorter than l.
-    pub no-shorter : (d : ℕ → ℕ → ℕ) → Cheapest n d E → d l.0 l.1 ≤ d m.0 m.1
-    no-shorter d c = omega (arith, c.least (m ∷ R) (exchange c.tree), taken-cost d t)
+    pub no_shorter : (d : ℕ → ℕ → ℕ) → Cheapest n d E → d l.0 l.1 ≤ d m.0 m.1
+    no_shorter d c = omega (arith, c.least (m ∷ R) (exchange c.tree), taken-cost d t)
 
     -- If m is no longer than l, the tree with m is a cheapest one too.
-    pub still-cheapest : (d : ℕ → ℕ → ℕ) → Cheapest n d E → d m.0 m.1 ≤ d l.0 l.1 → Cheapest n d (m ∷ R)
-    still-cheapest d c h = record {
+    pub still_cheapest : (d : ℕ → ℕ → ℕ) → Cheapest n d E → d m.0 m.1 ≤ d l.0 l.1 → Cheapest n d (m ∷ R)
+    still_cheapest d c h = record {
       tree = exchange c.tree;
       least = λ F T. omega (arith, c.least F T, taken-cost d t);
     }

@@ -10,8 +10,8 @@ use Rattle.graph.specs.Walk.{stop}
 use Rattle.graph.specs.Tree.{Ends, Joined, Tree, cost, Cheapest}
 use Rattle.graph.proofs.Below.{last_or}
 use Rattle.graph.proofs.Walks.{single, join}
-use Rattle.graph.proofs.Links.{joined_back, inside-cons, ahead, widen, joined?}
-use Rattle.graph.proofs.Search.{all-below?, Some, some?, to_some, of_some}
+use Rattle.graph.proofs.Links.{joined_back, inside_cons, ahead, widen, joined?}
+use Rattle.graph.proofs.Search.{all_below?, Some, some?, to_some, of_some}
 
 -- A path from node 0 to every node joins every two.
 hub : (n : ℕ) (E : List Ends) → ((w : ℕ) → w < n → Joined E 0 w) → (u v : ℕ) → u < n → v < n → Joined E u v
@@ -20,7 +20,7 @@ hub n E f u v hu hv = join (joined_back E (f u hu)) (f v hv)
 -- A tree is still one with one more node, linked to node 0. So there is a tree over any number of nodes.
 grown : (m : ℕ) (E : List Ends) → Tree (suc m) E → Tree (suc (suc m)) ((0, suc m) ∷ E)
 grown m E T = record {
-  inside = inside-cons _ l E (omega arith) (omega arith) (λ a b h. omega (arith, T.inside a b h));
+  inside = inside_cons _ l E (omega arith) (omega arith) (λ a b h. omega (arith, T.inside a b h));
   joins = hub _ (l ∷ E) spoke;
   count = ap suc T.count;
 }
@@ -40,7 +40,7 @@ module _ (n : ℕ) (d : ℕ → ℕ → ℕ) where
   Cheaper c F = ((w : ℕ) → w < n → Joined F 0 w) × (cost d F < c)
 
   cheaper? : (c : ℕ) (F : List Ends) → Dec (Cheaper c F)
-  cheaper? c F = Dec.and (all-below? n (Joined F 0) (joined? F 0)) (dec_lt (cost d F) c)
+  cheaper? c F = Dec.and (all_below? n (Joined F 0) (joined? F 0)) (dec_lt (cost d F) c)
 
   -- By induction on a bound of the cost.
   cheapen : 0 < n → (c : ℕ) (E : List Ends) → Tree n E → cost d E < c → (F : List Ends) × Cheapest n d F

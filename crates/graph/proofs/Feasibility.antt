@@ -41,9 +41,9 @@ module _ (n : ℕ) (d : ℕ → ℕ → ℕ) where
     links-join u v hu hv = bridged (suc (d u v)) u v hu hv (omega arith)
 
 -- Only the distances of different nodes count.
-pub feasible-as : (n : ℕ) (d d' : ℕ → ℕ → ℕ) → ((a b : ℕ) → a < n → b < n → a ≢ b → d a b ≡ d' a b) →
+pub feasible_as : (n : ℕ) (d d' : ℕ → ℕ → ℕ) → ((a b : ℕ) → a < n → b < n → a ≢ b → d a b ≡ d' a b) →
     (ε u v : ℕ) → u < n → v < n → u ≢ v → Feasible n d ε u v → Feasible n d' ε u v
-feasible-as n d d' same ε u v hu hv ne f c = f (expand short (rw (← same u v hu hv ne) at c))
+feasible_as n d d' same ε u v hu hv ne f c = f (expand short (rw (← same u v hu hv ne) at c))
   where
     short : (a b : ℕ) → Short n d' ε (d u v) a b → Chain n d ε (d u v) a b
     short a b s = elim (ℕ_discrete a b) [

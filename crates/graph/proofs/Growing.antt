@@ -42,8 +42,8 @@ module _ (n : ℕ) (d : ℕ → ℕ → ℕ) (back : (a b : ℕ) → d a b ≡ d
       (within (span u v) v u hv hu (λ e. ne (sym e))).0
       (reverse (short_back n d back 0 (span u v + 1)) ((within (span u v) u v hu hv ne).1 (omega arith)))
 
-  pub span-sym : (u v : ℕ) → u < n → v < n → u ≢ v → span u v ≡ span v u
-  span-sym u v hu hv ne = omega (arith, no_longer u v hu hv ne, no_longer v u hv hu (λ e. ne (sym e)))
+  pub span_sym : (u v : ℕ) → u < n → v < n → u ≢ v → span u v ≡ span v u
+  span_sym u v hu hv ne = omega (arith, no_longer u v hu hv ne, no_longer v u hv hu (λ e. ne (sym e)))
 
   module _ {S : ℕ → Type 0} (dec : (a : ℕ) → Dec (S a)) where
     -- No step out of S is shorter than w.

@@ -23,8 +23,8 @@ pub joined_back : (E : List Ends) {u v : ℕ} → Joined E u v → Joined E v u
 joined_back E = reverse (has-back E)
 
 -- The ends of links are below n if those of the first are, and those of the others.
-pub inside-cons : (n : ℕ) (l : Ends) (E : List Ends) → l.0 < n → l.1 < n → ((a b : ℕ) → Has E a b → a < n) → (a b : ℕ) → Has (l ∷ E) a b → a < n
-inside-cons n l E h0 h1 i a b =
+pub inside_cons : (n : ℕ) (l : Ends) (E : List Ends) → l.0 < n → l.1 < n → ((a b : ℕ) → Has E a b → a < n) → (a b : ℕ) → Has (l ∷ E) a b → a < n
+inside_cons n l E h0 h1 i a b =
     ⊎_elim (λ h. (between (λ x y. (x < n) × (y < n)) (λ x y h. (h.1, h.0)) l (h0, h1) a b h).0) (i a b)
 
 module _ (l : Ends) (E : List Ends) where

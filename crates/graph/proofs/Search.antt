@@ -10,22 +10,22 @@ use native.Mathlib.Decide.{map_dec}
 use lib.ListN.{length}
 use Rattle.graph.specs.Tree.{Ends, Has}
 use Rattle.graph.proofs.Below.{last_or}
-use Rattle.graph.proofs.Links.{inside-cons, ahead, astern}
+use Rattle.graph.proofs.Links.{inside_cons, ahead, astern}
 
-pub all-below? : (n : ℕ) (P : ℕ → Type 0) → ((i : ℕ) → Dec (P i)) → Dec ((i : ℕ) → i < n → P i)
-all-below? zero P D = yes (λ i h. absurd (not-suc-le-zero h))
-all-below? (suc n) P D =
+pub all_below? : (n : ℕ) (P : ℕ → Type 0) → ((i : ℕ) → Dec (P i)) → Dec ((i : ℕ) → i < n → P i)
+all_below? zero P D = yes (λ i h. absurd (not-suc-le-zero h))
+all_below? (suc n) P D =
     map_dec (λ f i h. last_or P n i h f.0 (f.1 i)) (λ f. (f n (omega arith), λ i h. f i (omega arith)))
-    (Dec.and (D n) (all-below? n P D))
+    (Dec.and (D n) (all_below? n P D))
 
-some-below? : (n : ℕ) (P : ℕ → Type 0) → ((i : ℕ) → Dec (P i)) → Dec ((i : ℕ) × (i < n) × P i)
-some-below? zero P D = no (λ s. not-suc-le-zero s.1)
-some-below? (suc n) P D = elim (D n) [
+some_below? : (n : ℕ) (P : ℕ → Type 0) → ((i : ℕ) → Dec (P i)) → Dec ((i : ℕ) × (i < n) × P i)
+some_below? zero P D = no (λ s. not-suc-le-zero s.1)
+some_below? (suc n) P D = elim (D n) [
   | yes p ↦ yes (n, omega arith, p)
   | no q ↦
       map_dec (λ s. (s.0, omega arith, s.2))
       (λ s. last_or (λ i. P i → (i : ℕ) × (i < n) × P i) n s.0 s.1 (λ p. absurd (q p)) (λ h p. (s.0, h, p)) s.2)
-      (some-below? n P D)
+      (some_below? n P D)
 ]
 
 module _ (n : ℕ) where
@@ -36,7 +36,7 @@ module _ (n : ℕ) where
 
   pub some? : (k : ℕ) (P : List Ends → Type 0) → ((F : List Ends) → Dec (P F)) → Dec (Some k P)
   some? zero P D = D []
-  some? (suc k) P D = some-below? n _ (λ a. some-below? n _ (λ b. some? k _ (λ F. D ((a, b) ∷ F))))
+  some? (suc k) P D = some_below? n _ (λ a. some_below? n _ (λ b. some? k _ (λ F. D ((a, b) ∷ F))))
 
   -- The search meets every list as P asks, and what it finds is such a list.
   pub to_some : (F : List Ends) (P : List Ends → Type 0) → ((a b : ℕ) → Has F a b → a < n) → P F → Some (length F) P
@@ -48,4 +48,4 @@ module _ (n : ℕ) where
   of_some zero P p = ([], refl, (λ a b h. absurd h), p)
   of_some (suc k) P (a, ha, (b, hb, s)) =
       let (F, e, i, p) = of_some k (λ F. P ((a, b) ∷ F)) s in
-      ((a, b) ∷ F, ap suc e, inside-cons n (a, b) F ha hb i, p)
+      ((a, b) ∷ F, ap suc e, inside_cons n (a, b) F ha hb i, p)

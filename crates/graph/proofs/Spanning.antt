@@ -9,7 +9,7 @@ use Rattle.graph.specs.Feasible.{Short, Feasible}
 use Rattle.graph.specs.Tree.{Ends, Between, Has, Joined, Cheapest, InCheapest}
 use Rattle.graph.proofs.Walks.{expand, relax, first_step}
 use Rattle.graph.proofs.Links.{between, ahead, astern, widen, detour}
-use Rattle.graph.proofs.Exchange.{Taken, here, later, take_out, find, taken-apart, taken_back, no-shorter, still-cheapest}
+use Rattle.graph.proofs.Exchange.{Taken, here, later, take_out, find, taken-apart, taken_back, no_shorter, still_cheapest}
 use Rattle.graph.proofs.Feasibility.{short_back, feasible-back}
 use Rattle.graph.proofs.Exists.{cheapest-tree}
 
@@ -19,11 +19,11 @@ module _ (n : ℕ) (d : ℕ → ℕ → ℕ) (symmetric : (a b : ℕ) → d a b 
   taken-feasible : (l : Ends) (E R : List Ends) → Taken l E R → Cheapest n d E → l.0 ≢ l.1 → Feasible n d 0 l.0 l.1
   taken-feasible l E R t c ne p =
       let (w, s) = first_step ne p in
-      omega (arith, no-shorter t (l.0, w) s.from s.to (widen _ R (expand others p)) d c)
+      omega (arith, no_shorter t (l.0, w) s.from s.to (widen _ R (expand others p)) d c)
     where
       others : (a b : ℕ) → Short n d 0 (d l.0 l.1) a b → Joined R a b
       others a b s =
-          ⊎_elim (λ q. q) (λ q. absurd (let z : ⊥ = omega (arith, no-shorter t (a, b) s.from s.to q d c) in z))
+          ⊎_elim (λ q. q) (λ q. absurd (let z : ⊥ = omega (arith, no_shorter t (a, b) s.from s.to q d c) in z))
           (detour l R (relax (taken-apart t) (c.tree.joins a b s.from s.to)))
 
   pub tree-links : (E : List Ends) → Cheapest n d E → (u v : ℕ) → u ≢ v → Has E u v → Feasible n d 0 u v
@@ -69,12 +69,12 @@ module _ (n : ℕ) (d : ℕ → ℕ → ℕ) (symmetric : (a b : ℕ) → d a b 
             between (Short n d 0 (d u v)) (short_back n d symmetric 0 (d u v)) m
             (record { from = i _ _ (ahead m E); to = i _ _ (astern m E); below = omega arith })
 
-    in-cheapest : u < n → v < n → Feasible n d 0 u v → InCheapest n d u v
-    in-cheapest hu hv f =
+    in_cheapest : u < n → v < n → Feasible n d 0 u v → InCheapest n d u v
+    in_cheapest hu hv f =
         let (E, c) = cheapest-tree n d (omega arith) in
         let p : Joined (E ++ []) u v = rw append-nil (c.tree.joins u v hu hv) in
         let k = long-one f E [] c.tree.inside (λ a b h. absurd h) p in
-        ((u, v) ∷ k.rest, still-cheapest k.taken (u, v) hu hv (rw (append-nil k.rest) at k.path) d c k.long, ahead (u, v) k.rest)
+        ((u, v) ∷ k.rest, still_cheapest k.taken (u, v) hu hv (rw (append-nil k.rest) at k.path) d c k.long, ahead (u, v) k.rest)
 
   pub spanned : (u v : ℕ) → u < n → v < n → u ≢ v → Feasible n d 0 u v ↔ InCheapest n d u v
-  spanned u v hu hv ne = (in-cheapest u v hu hv, λ s. tree-links s.0 s.1 u v ne s.2)
+  spanned u v hu hv ne = (in_cheapest u v hu hv, λ s. tree-links s.0 s.1 u v ne s.2)

@@ -15,13 +15,13 @@ use borrow.Author.Tests.{leb-true, le-leb}
 use Rattle.graph.specs.Below.{table}
 use Rattle.graph.specs.Walk.{stop, step}
 use Rattle.graph.specs.Feasible.{Chain, Feasible}
-use Rattle.graph.specs.Spans.{cell, grid, passing, spansBy, spans, feasible}
-use Rattle.graph.proofs.Below.{last_or, getD-table}
+use Rattle.graph.specs.Spans.{cell, grid, passing, spans_by, spans, feasible}
+use Rattle.graph.proofs.Below.{last_or, get_or-table}
 use Rattle.graph.proofs.Walks.{single, join}
 
 pub cell-grid : (n : ℕ) (f : ℕ → ℕ → ℕ) (a b : ℕ) → a < n → b < n → cell (grid n f) a b ≡ f a b
 unfolding grid
-cell-grid n f a b ha hb = rw (getD-table n (λ c. table n (f c)) a [] ha, getD-table n (f a) b 0 hb)
+cell-grid n f a b ha hb = rw (get_or-table n (λ c. table n (f c)) a [] ha, get_or-table n (f a) b 0 hb)
 
 min-max-below : (p q r ε x : ℕ) → (min p (max q r) + ε < x) ↔ (p + ε < x) ⊎ ((q + ε < x) × (r + ε < x))
 min-max-below p q r ε x = (
@@ -36,15 +36,15 @@ module _ (n : ℕ) (d : ℕ → ℕ → ℕ) where
   module _ (ε x : ℕ) where
     -- The span of a and b plus ε is below x where chains pass nodes below k alone.
     abbrev Spanned : ℕ → ℕ → ℕ → Type 0
-    Spanned k a b = cell (spansBy k n d) a b + ε < x
+    Spanned k a b = cell (spans_by k n d) a b + ε < x
 
     -- With one more node to pass, it was so before, or is so of the two parts.
     spanned-more : (k a b : ℕ) → a < n → b < n → Spanned (suc k) a b ↔ Spanned k a b ⊎ (Spanned k a k × Spanned k k b)
-    unfolding spansBy passing
+    unfolding spans_by passing
     spanned-more k a b ha hb = rw (cell-grid n _ a b ha hb) (min-max-below _ _ _ ε x)
 
     spanned-step : (k a b : ℕ) → a < n → b < n → d a b + ε < x → Spanned k a b
-    unfolding spansBy
+    unfolding spans_by
     spanned-step zero a b ha hb h = rw (cell-grid n d a b ha hb) h
     spanned-step (suc k) a b ha hb h = (spanned-more k a b ha hb).1 (inl (spanned-step k a b ha hb h))
 
@@ -58,8 +58,8 @@ module _ (n : ℕ) (d : ℕ → ℕ → ℕ) where
         let r = ⊎_elim (λ s. s) (λ s. s.1) ((spanned-more k k b hk hb).0 q) in
         (spanned-more k a b ha hb).1 (inr (l, r))
 
-    through-old : (k j : ℕ) → k < n → j < n → Through k j → Through (suc k) j
-    through-old k j hk hj t a b ha hb p q =
+    through_old : (k j : ℕ) → k < n → j < n → Through k j → Through (suc k) j
+    through_old k j hk hj t a b ha hb p q =
         let r = (spanned-more k j b hj hb).0 q in
         (spanned-more k a b ha hb).1 (⊎_elim
         (λ s. ⊎_elim (λ z. inl (t a b ha hb s z)) (λ z. inr (t a k ha hk s z.0, z.1)) r)
@@ -68,10 +68,10 @@ module _ (n : ℕ) (d : ℕ → ℕ → ℕ) where
 
     through : (k : ℕ) → k ≤ n → (j : ℕ) → j < k → Through k j
     through (suc k) hk j h =
-        last_or (Through (suc k)) k j h (through-new k hk) (λ l. through-old k j hk (omega arith) (through k (omega arith) j l))
+        last_or (Through (suc k)) k j h (through-new k hk) (λ l. through_old k j hk (omega arith) (through k (omega arith) j l))
 
     chain : (k : ℕ) → k ≤ n → (a b : ℕ) → a < n → b < n → Spanned k a b → Chain n d ε x a b
-    unfolding spansBy
+    unfolding spans_by
     chain zero hk a b ha hb h = single (record { from = ha; to = hb; below = rw (cell-grid n d a b ha hb) at h })
     chain (suc k) hk a b ha hb h =
         let c = chain k (omega arith) in
@@ -87,8 +87,8 @@ module _ (n : ℕ) (d : ℕ → ℕ → ℕ) where
     unfolding spans
     chain-spans u v hu hv ne = (λ c. ⊎_elim (λ e. absurd (ne e)) (λ s. s) (spanned hv c), chain n (omega arith) u v hu hv)
 
-    pub dec-chain : (u v : ℕ) → u < n → v < n → Dec (Chain n d ε x u v)
-    dec-chain u v hu hv = elim (ℕ_discrete u v) [
+    pub dec_chain : (u v : ℕ) → u < n → v < n → Dec (Chain n d ε x u v)
+    dec_chain u v hu hv = elim (ℕ_discrete u v) [
       | yes e ↦ yes (stop e)
       | no ne ↦ Dec.of_iff (Iff.symm (chain-spans u v hu hv ne)) (dec_lt _ _)
     ]
@@ -98,11 +98,11 @@ module _ (n : ℕ) (d : ℕ → ℕ → ℕ) where
   feasible-is ε u v hu hv ne = Iff.trans (leb-not _ _) (Iff.not (Iff.symm (chain-spans ε (d u v) u v hu hv ne)))
 
 -- From a node to itself the span is 0 where the distance is.
-self-by : (k n : ℕ) (d : ℕ → ℕ → ℕ) (a : ℕ) → a < n → d a a ≡ 0 → cell (spansBy k n d) a a ≡ 0
-unfolding spansBy passing
-self-by zero n d a h z = rw (cell-grid n d a a h h) z
-self-by (suc k) n d a h z = rw (cell-grid n _ a a h h) (omega (arith, self-by k n d a h z))
+self_by : (k n : ℕ) (d : ℕ → ℕ → ℕ) (a : ℕ) → a < n → d a a ≡ 0 → cell (spans_by k n d) a a ≡ 0
+unfolding spans_by passing
+self_by zero n d a h z = rw (cell-grid n d a a h h) z
+self_by (suc k) n d a h z = rw (cell-grid n _ a a h h) (omega (arith, self_by k n d a h z))
 
-pub span-self : (n : ℕ) (d : ℕ → ℕ → ℕ) (a : ℕ) → a < n → d a a ≡ 0 → cell (spans n d) a a ≡ 0
+pub span_self : (n : ℕ) (d : ℕ → ℕ → ℕ) (a : ℕ) → a < n → d a a ≡ 0 → cell (spans n d) a a ≡ 0
 unfolding spans
-span-self n = self-by n n
+span_self n = self_by n n

@@ -6,7 +6,7 @@ use Prim.Native.Nat.{ℕ, zero, suc, ◌+◌}
 use lib.ListN.{length, get_or, length-append, get_or-append}
 use lib.Seq.{get_or-append-add}
 use Rattle.graph.specs.Below.{gather, given, only}
-use Rattle.graph.proofs.Below.{gather-add, gather_ext}
+use Rattle.graph.proofs.Below.{gather_add, gather_ext}
 
 module _ {A B : Type 0} (g : A → List B) (d : A) where
   abbrev pub spread : List A → List B
@@ -17,7 +17,7 @@ module _ {A B : Type 0} (g : A → List B) (d : A) where
       let f : ℕ → List B = λ k. g (get_or (xs ++ ys) k d) in
       let front = gather_ext (length xs) f (λ k. g (get_or xs k d)) (λ k h. rw (get_or-append xs ys d k h)) in
       let rear = gather_ext (length ys) (λ k. f (length xs + k)) (λ k. g (get_or ys k d)) (λ k h. rw (get_or-append-add xs ys k d)) in
-      rw (length-append, gather-add (length xs) (length ys) f, front, rear)
+      rw (length-append, gather_add (length xs) (length ys) f, front, rear)
 
   pub spread-gather : (n : ℕ) (f : ℕ → List A) → spread (gather n f) ≡ gather n (λ i. spread (f i))
   unfolding gather

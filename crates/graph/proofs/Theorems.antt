@@ -23,7 +23,7 @@ module _ (n : ℕ) (d : ℕ → ℕ → ℕ) (symmetric : (a b : ℕ) → d a b 
 
   -- Feasible links, none longer than the distance of two nodes, lead from one to the other, whatever ε is.
   pub links-join : (ε u v : ℕ) → u < n → v < n → Walk (Bridge n d ε (d u v)) u v
-  links-join ε = feasibility.links-join n d ε (test.dec-chain n d ε)
+  links-join ε = feasibility.links-join n d ε (test.dec_chain n d ε)
 
   -- A feasible link stays feasible at every larger ε.
   pub wider : (ε δ u v : ℕ) → ε ≤ δ → Feasible n d ε u v → Feasible n d δ u v
@@ -34,8 +34,8 @@ module _ (n : ℕ) (d : ℕ → ℕ → ℕ) (symmetric : (a b : ℕ) → d a b 
   short-links = feasibility.short-links n d
 
   -- No fewer links than a tree's join all nodes; so no link of a tree can be spared.
-  pub no-fewer : (E F : List Ends) → Tree n E → ((u v : ℕ) → u < n → v < n → Joined F u v) → length E ≤ length F
-  no-fewer E F T f = omega (arith, T.count, fewest n F f)
+  pub no_fewer : (E F : List Ends) → Tree n E → ((u v : ℕ) → u < n → v < n → Joined F u v) → length E ≤ length F
+  no_fewer E F T f = omega (arith, T.count, fewest n F f)
 
   -- There is a cheapest tree.
   pub cheapest-tree : 0 < n → (E : List Ends) × Cheapest n d E

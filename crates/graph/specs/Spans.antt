@@ -18,12 +18,12 @@ unfoldable pub passing : ℕ → ℕ → Grid → Grid
 passing n k g = grid n (λ a b. min (cell g a b) (max (cell g a k) (cell g k b)))
 
 -- The spans of chains that pass nodes below k alone.
-unfoldable pub spansBy : ℕ → ℕ → (ℕ → ℕ → ℕ) → Grid
-spansBy zero n d = grid n d
-spansBy (suc k) n d = passing n k (spansBy k n d)
+unfoldable pub spans_by : ℕ → ℕ → (ℕ → ℕ → ℕ) → Grid
+spans_by zero n d = grid n d
+spans_by (suc k) n d = passing n k (spans_by k n d)
 
 unfoldable pub spans : ℕ → (ℕ → ℕ → ℕ) → Grid
-spans n d = spansBy n n d
+spans n d = spans_by n n d
 
 -- RULES 7.3: the test of a link, given the spans g.
 abbrev pub feasible : (ℕ → ℕ → ℕ) → Grid → ℕ → ℕ → ℕ → Bool

@@ -7,31 +7,31 @@ use borrow.Author.Tests.{eq-eqb, ne_eqb}
 use Rattle.rules.specs.Answers.{number, place}
 use Rattle.rules.specs.Job.{Bytes}
 use Rattle.rules.specs.Lent.{Lent}
-use Rattle.rules.specs.Call.{answer, padded, resultAfter}
+use Rattle.rules.specs.Call.{answer, padded, result_after}
 use Rattle.rules.specs.Text.{printed}
 use Rattle.rules.specs.declared.Answer.{Answer}
 use Rattle.rules.specs.declared.Answer.TheVariants.{Done}
 use Rattle.rules.specs.declared.Link.{Link}
 use Rattle.answers.specs.Told.{ToldOf}
 use Rattle.answers.specs.declared.Told.{Told}
-use Rattle.text.specs.Printed.{ToldText, RefusalLeft, TextLeft, text_of, printedAs, printedBytes}
+use Rattle.text.specs.Printed.{ToldText, RefusalLeft, TextLeft, text_of, printed_as, printed_bytes}
 use Rattle.text.specs.declared.Printed.{Printed}
 use Rattle.network.specs.Called.{lent_by, Called}
-use Rattle.service.specs.Served.{printedIn}
-use Rattle.service.proofs.Text.{text-is, printed-as}
-use Rattle.hurdlesong_c.specs.Interface.{CallTold, textBy, printedBy, TextTold}
+use Rattle.service.specs.Served.{printed_in}
+use Rattle.service.proofs.Text.{text-is, printed_is}
+use Rattle.hurdlesong_c.specs.Interface.{CallTold, text_by, printed_by, TextTold}
 
 -- ── The contracts ──
 
-pub call-told : {job result states : Bytes} {distances : List ℕ} {links : List Link} {r : Answer} {t : Told} {result' states' : Bytes} {distances' : List ℕ}
+pub call_told : {job result states : Bytes} {distances : List ℕ} {links : List Link} {r : Answer} {t : Told} {result' states' : Bytes} {distances' : List ℕ}
     {links' : List Link} → Called job result states distances links r result' states' distances' links' → ToldOf r t →
     CallTold job result states distances links t result' states' distances' links'
-call-told c t = record { called = rw c.served.answered at c; told = rw c.served.answered at t }
+call_told c t = record { called = rw c.served.answered at c; told = rw c.served.answered at t }
 
 -- The text that `text` leaves, and the line that `refusal_text` leaves, each told by number and place.
 module _ {job block : Bytes} {n at lent : ℕ} {out : Bytes} {p : Printed} {r : Told} where
   pub network-told : n ≡ 0 → TextLeft job block (Done 0) lent out p → ToldText p r → TextTold job block n at lent out r
-  unfolding printedAs
+  unfolding printed_as
   network-told e t told = record { told = rw (eq-eqb n 0 e, ← t.answered) told; left = t.left ∙ rw (eq-eqb n 0 e) }
 
   pub line-told : n ≢ 0 → RefusalLeft n at lent out p → ToldText p r → TextTold job block n at lent out r
@@ -40,11 +40,11 @@ module _ {job block : Bytes} {n at lent : ℕ} {out : Bytes} {p : Printed} {r : 
 -- ── The text of an answer ──
 
 module _ (job block : Bytes) (a : Answer) where
-  text-by : textBy job block (number a) (place a) ≡ text_of job block a
+  text-by : text_by job block (number a) (place a) ≡ text_of job block a
   text-by = refl
 
-  printed-by : (lent : ℕ) → printedBy lent job block (number a) (place a) ≡ printedAs lent job block a
-  unfolding printedAs
+  printed-by : (lent : ℕ) → printed_by lent job block (number a) (place a) ≡ printed_as lent job block a
+  unfolding printed_as
   printed-by lent = refl
 
 -- A call, and then the text by what was told of it: the text of the rules.
@@ -57,14 +57,14 @@ module _ {job result states : Bytes} {distances : List ℕ} {links : List Link} 
   abbrev a : Answer
   a = answer memory job
 
-  said : printedBy lent job result' r.number r.place ≡ printedIn lent (printed memory job)
-  said = rw (c.told.number_is, c.told.place_is, c.called.served.result-left) (printed-by job (resultAfter memory job) a lent ∙ printed-as memory job lent)
+  said : printed_by lent job result' r.number r.place ≡ printed_in lent (printed memory job)
+  said = rw (c.told.number_is, c.told.place_is, c.called.served.result_left) (printed-by job (result_after memory job) a lent ∙ printed_is memory job lent)
 
-  is : textBy job result' r.number r.place ≡ printed memory job
-  is = rw (c.told.number_is, c.told.place_is, c.called.served.result-left) (text-by job (resultAfter memory job) a ∙ text-is memory job)
+  is : text_by job result' r.number r.place ≡ printed memory job
+  is = rw (c.told.number_is, c.told.place_is, c.called.served.result_left) (text-by job (result_after memory job) a ∙ text-is memory job)
 
-  pub text-told : ToldText (printedIn lent (printed memory job)) t
+  pub text-told : ToldText (printed_in lent (printed memory job)) t
   text-told = rw said at x.told
 
-  pub text-left : out ≡ padded lent (printedBytes (printedIn lent (printed memory job)) (printed memory job))
+  pub text-left : out ≡ padded lent (printed_bytes (printed_in lent (printed memory job)) (printed memory job))
   text-left = rw (said, is) at x.left

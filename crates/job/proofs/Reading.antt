@@ -5,7 +5,7 @@ use native.Mathlib.Nat.{suc-mul, mul-le-mul_right}
 use native.Mathlib.Omega.{arith}
 use lib.ListN.{length, take, drop}
 use Rattle.rules.specs.Answers.{number}
-use Rattle.rules.specs.Job.{Bytes, rows, width, jobRow, checked}
+use Rattle.rules.specs.Job.{Bytes, rows, width, job_row, checked}
 use Rattle.rules.proofs.Job.{passed_is, row-part}
 
 -- Row k of a job of width m ends within it, and so do the weights before it.
@@ -28,7 +28,7 @@ first-row job m e w = row_ends job m 0 e w (passed_is job e).rows-within.at_leas
 
 -- That part of the job is the row of the rules.
 pub row_is : (job : Bytes) (m k : ℕ) → number (checked job) ≡ 0 → m ≡ width job → k < rows job →
-    let from = 12 + 2 * m + k * m in take (from + m - from) (drop from job) ≡ jobRow job k
+    let from = 12 + 2 * m + k * m in take (from + m - from) (drop from job) ≡ job_row job k
 row_is job m k e w h =
     let from = 12 + 2 * m + k * m in
     let l : from + m - from ≡ m = omega arith in

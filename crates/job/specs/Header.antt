@@ -6,5 +6,5 @@ use Rattle.job.specs.declared.Header.{Header}
 pub record HeaderOf (job : Bytes) (r : Header) : Type 0 where
   pub rows_are : r.rows ≡ rows job
   pub width_is : r.width ≡ width job
-  pub epsilon-is : r.epsilon ≡ epsilon job
-  pub epsilon-fits : r.epsilon ≤ 65535
+  pub epsilon_is : r.epsilon ≡ epsilon job
+  pub epsilon_fits : r.epsilon ≤ 65535

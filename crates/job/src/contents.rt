@@ -1,8 +1,8 @@
 // The corner of a job's contents: the refusals 6 and 7, of a job whose size and layout are right. The job is only read.
 
 ghost use Rattle.std.specs.Prelude.{◌≡◌, ◌+◌, ◌*◌, ◌≤◌, length};
-ghost use Rattle.rules.specs.Sizes.{mostWidth, jobHead};
-ghost use Rattle.rules.specs.Job.{rows, width, outside, badWeight, badState, checked};
+ghost use Rattle.rules.specs.Sizes.{most_width, job_head};
+ghost use Rattle.rules.specs.Job.{rows, width, outside, bad_weight, bad_state, checked};
 ghost use Rattle.job.specs.Stages.{LaidOut};
 
 use memory::word_at;
@@ -17,8 +17,8 @@ pub fn outside(low: usize, high: usize, x: usize) -> bool
 
 // The first column whose weight is 0 or over 1,000, or the width where there is none.
 fn bad_weight(job: &[u8], m: usize) -> usize
-    requires { (m ≡ width job.now) × (m ≤ mostWidth) × (jobHead + 2 * m ≤ length job.now) }
-    ensures { result ≡ badWeight job.now }
+    requires { (m ≡ width job.now) × (m ≤ most_width) × (job_head + 2 * m ≤ length job.now) }
+    ensures { result ≡ bad_weight job.now }
 {
     let mut c = 0;
     while c < m {
@@ -32,8 +32,8 @@ fn bad_weight(job: &[u8], m: usize) -> usize
 
 // The first place in row order whose state is outside 33 to 126, counted over all states, or their number where there is none.
 fn bad_state(job: &[u8], n: usize, m: usize) -> usize
-    requires { (n ≡ rows job.now) × (m ≡ width job.now) × (length job.now ≡ jobHead + 2 * m + n * m) }
-    ensures { result ≡ badState job.now }
+    requires { (n ≡ rows job.now) × (m ≡ width job.now) × (length job.now ≡ job_head + 2 * m + n * m) }
+    ensures { result ≡ bad_state job.now }
 {
     let first = JOB_HEAD + 2 * m;
     let mut place = 0;

@@ -6,9 +6,9 @@ pub mod checks;
 pub mod contents;
 
 ghost use Rattle.std.specs.Prelude.{◌≡◌, ◌≤◌, ◌<◌, length};
-ghost use Rattle.rules.specs.Sizes.{mostWidth, jobHead, rowSize};
+ghost use Rattle.rules.specs.Sizes.{most_width, job_head, row_size};
 ghost use Rattle.rules.specs.Answers.{number};
-ghost use Rattle.rules.specs.Job.{rows, width, weights, jobRow, checked};
+ghost use Rattle.rules.specs.Job.{rows, width, weights, job_row, checked};
 ghost use Rattle.rules.specs.Call.{padded};
 ghost use Rattle.job.specs.Header.{HeaderOf};
 
@@ -24,7 +24,7 @@ pub struct Header {
 }
 
 pub fn header_of(job: &[u8]) -> Header
-    requires { jobHead ≤ length job.now }
+    requires { job_head ≤ length job.now }
     ensures { HeaderOf job.now result }
 {
     Header {
@@ -37,7 +37,7 @@ pub fn header_of(job: &[u8]) -> Header
 // The weights, with zeros behind them: a character past the width weighs nothing.
 pub fn weights(job: &[u8], m: usize) -> [u16; MOST_WIDTH]
     requires { (number (checked job.now) ≡ 0) × (m ≡ width job.now) }
-    ensures { result ≡ padded mostWidth (weights job.now) }
+    ensures { result ≡ padded most_width (weights job.now) }
 {
     let mut w = [0u16; MOST_WIDTH];
     let mut c = 0;
@@ -51,7 +51,7 @@ pub fn weights(job: &[u8], m: usize) -> [u16; MOST_WIDTH]
 // Row k as it is stored, with zeros behind it. Rows enter the run here and nowhere else.
 pub fn row(job: &[u8], m: usize, k: usize) -> [u8; ROW]
     requires { (number (checked job.now) ≡ 0) × (m ≡ width job.now) × (k < rows job.now) }
-    ensures { result ≡ padded rowSize (jobRow job.now k) }
+    ensures { result ≡ padded row_size (job_row job.now k) }
 {
     let from = JOB_HEAD + 2 * m + k * m;
     let to = from + m;

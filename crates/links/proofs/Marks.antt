@@ -12,14 +12,14 @@ use lib.Dec.{eqb}
 use lib.ListN.{get_or}
 use borrow.Author.Tests.{eq-eqb, ne_eqb}
 use Rattle.graph.specs.Spans.{spans, feasible}
-use Rattle.graph.proofs.Below.{sum_more, count-le}
+use Rattle.graph.proofs.Below.{sum_more, count_le}
 use Rattle.graph.proofs.Feasibility.{feasible-back}
 use Rattle.graph.proofs.Spans.{feasible-is}
 use Rattle.distances.specs.Area.{cell_at, CellsWritten}
 use Rattle.distances.proofs.Area.{written_once}
 use Rattle.spans.specs.Tree.{between, mirrored, Mirror, opposite, Spanned}
-use Rattle.spans.proofs.Growing.{between-sym}
-use Rattle.links.specs.Marks.{marked, markCount, mark, LinksFound}
+use Rattle.spans.proofs.Growing.{between_sym}
+use Rattle.links.specs.Marks.{marked, mark_count, mark, LinksFound}
 
 -- A mark tells a test: it is 1 exactly where the test passes, and never more.
 tells : (t : Bool) {v : ℕ} → v ≡ cond t 1 0 → ((v ≡ 1) ↔ (t ≡ true)) × (v ≤ 1)
@@ -41,10 +41,10 @@ module _ (n e : ℕ) (before : List ℕ) {start spans' mid after : List ℕ} (h 
   found = record {
     size = x.size ∙ w.size;
     linked = λ i j l r.
-        let back = feasible-back n (between before) (between-sym before) e in
+        let back = feasible-back n (between before) (between_sym before) e in
         let test = feasible-is n (between before) e j i r (omega arith) (λ t. omega arith) in
         Iff.trans (tested i j l r).0 (Iff.trans test (back j i, back i j));
-    or-not = λ i j l r. (tested i j l r).1;
+    or_not = λ i j l r. (tested i j l r).1;
     kept = λ p other. x.kept p (λ i j t. other j i t.0 t.1) ∙ w.kept p (λ i j t. other j i t.0 t.1);
   }
 
@@ -63,7 +63,7 @@ module _ {n e : ℕ} {before : List ℕ} where
     holds = λ i j t.
         let h = t.0 in
         let l = t.1 in
-        same-mark (p.linked j i h l) (q.linked j i h l) (p.or-not j i h l) (q.or-not j i h l);
+        same-mark (p.linked j i h l) (q.linked j i h l) (p.or_not j i h l) (q.or_not j i h l);
     kept = λ place other. p.kept place (λ i j h l. other j i (h, l));
   }
 
@@ -72,15 +72,15 @@ module _ {n e : ℕ} {before : List ℕ} where
 
 -- A loop counts the links of type i with n types. It passed those before j.
 pub record Counted (area : List ℕ) (i n j links : ℕ) : Type 0 where
-  pub is : links ≡ markCount area (min j n) i
+  pub is : links ≡ mark_count area (min j n) i
   pub few : links ≤ n
 
 module _ {area : List ℕ} {i n : ℕ} where
-  pub counted-at : {j links : ℕ} → links ≡ markCount area (min j n) i → Counted area i n j links
-  counted-at {j} e = record { is = e; few = omega (arith, count-le (min j n) (marked area i)) }
+  pub counted-at : {j links : ℕ} → links ≡ mark_count area (min j n) i → Counted area i n j links
+  counted-at {j} e = record { is = e; few = omega (arith, count_le (min j n) (marked area i)) }
 
   pub counted_none : Counted area i n 0 0
-  counted_none = counted-at (omega (arith, count-le (min 0 n) (marked area i)))
+  counted_none = counted-at (omega (arith, count_le (min 0 n) (marked area i)))
 
   -- One type more counts 1 if its mark, read at its place, says linked. Type i itself is not linked.
   pub counted-more : {j links one : ℕ} (p : ℕ) → Counted area i n j links → (j < n) × (i ≢ j) × (p ≡ mirrored i j) →
@@ -90,13 +90,13 @@ module _ {area : List ℕ} {i n : ℕ} where
       let new : min (j + 1) n ≡ j + 1 = omega arith in
       counted-at (rw (new, sum_more j (λ k. cond (marked area i k) 1 0), ne_eqb i j ne, ← at, ← e, c.is, old))
 
-  pub counted-self : {links : ℕ} → Counted area i n i links → Counted area i n (i + 1) links
-  counted-self c = counted-at (c.is ∙ elim (dec_lt i n) [
+  pub counted_self : {links : ℕ} → Counted area i n i links → Counted area i n (i + 1) links
+  counted_self c = counted-at (c.is ∙ elim (dec_lt i n) [
     | yes h ↦ let old : min i n ≡ i = omega arith in
         let new : min (i + 1) n ≡ i + 1 = omega arith in
         rw (old, new, sum_more i (λ k. cond (marked area i k) 1 0), eq-eqb i i refl) (omega arith)
     | no h ↦ let same : min (i + 1) n ≡ min i n = omega arith in rw same
   ])
 
-  pub counted-all : {j links : ℕ} → n ≤ j → Counted area i n j links → links ≡ markCount area n i
+  pub counted-all : {j links : ℕ} → n ≤ j → Counted area i n j links → links ≡ mark_count area n i
   counted-all {j} h c = let e : min j n ≡ n = omega arith in rw e at c.is

@@ -2,7 +2,7 @@
 use Rattle.std.specs.Prelude.{◌≡◌, ◌↔◌, ◌≢◌, Bool, cond, not, ◌&&◌, List, ℕ, ◌+◌, ◌*◌, ◌≤◌, ◌<◌, eqb, leb, length, get_or}
 use Rattle.graph.specs.Below.{count}
 use Rattle.graph.specs.Feasible.{Feasible}
-use Rattle.rules.specs.Sizes.{lineSize}
+use Rattle.rules.specs.Sizes.{line_size}
 use Rattle.rules.specs.Job.{Row}
 use Rattle.rules.specs.Links.{FeasibleLink}
 use Rattle.distances.specs.Area.{cell_at}
@@ -12,8 +12,8 @@ abbrev pub marked : List ℕ → ℕ → ℕ → Bool
 marked area i j = not (eqb i j) && eqb (get_or area (mirrored i j) 0) 1
 
 -- How many of n types are linked with type i.
-abbrev pub markCount : List ℕ → ℕ → ℕ → ℕ
-markCount area n i = count n (marked area i)
+abbrev pub mark_count : List ℕ → ℕ → ℕ → ℕ
+mark_count area n i = count n (marked area i)
 
 -- The mark of a pair by its distance and its span.
 abbrev pub mark_of : ℕ → ℕ → ℕ → ℕ
@@ -27,10 +27,10 @@ mark e spans area i j = mark_of e (cell_at area i j) (cell_at spans i j)
 pub record LinksFound (n e : ℕ) (before after : List ℕ) : Type 0 where
   pub size : length after ≡ length before
   pub linked : (i j : ℕ) → i < j → j < n → (cell_at after j i ≡ 1) ↔ Feasible n (between before) e i j
-  pub or-not : (i j : ℕ) → i < j → j < n → cell_at after j i ≤ 1
-  pub kept : (p : ℕ) → ((i j : ℕ) → i < j → j < n → p ≢ lineSize * j + i) → get_or after p 0 ≡ get_or before p 0
+  pub or_not : (i j : ℕ) → i < j → j < n → cell_at after j i ≤ 1
+  pub kept : (p : ℕ) → ((i j : ℕ) → i < j → j < n → p ≢ line_size * j + i) → get_or after p 0 ≡ get_or before p 0
 
 -- The area tells the links of rows at epsilon.
 pub record TellsLinks (ws : List ℕ) (e : ℕ) (rs : List Row) (area : List ℕ) : Type 0 where
   pub linked : (i j : ℕ) → i < j → j < length rs → (cell_at area j i ≡ 1) ↔ FeasibleLink ws e rs i j
-  pub or-not : (i j : ℕ) → i < j → j < length rs → cell_at area j i ≤ 1
+  pub or_not : (i j : ℕ) → i < j → j < length rs → cell_at area j i ≤ 1

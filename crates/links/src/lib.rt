@@ -2,10 +2,10 @@
 // and writes its mirror cells: 1 if the two types are linked, and else 0.
 
 ghost use Rattle.std.specs.Prelude.{◌≡◌, cond, ◌+◌, ◌*◌, ◌≤◌, ◌<◌, eqb, length};
-ghost use Rattle.rules.specs.Sizes.{mostTypes, lineSize, distanceArea};
+ghost use Rattle.rules.specs.Sizes.{most_types, line_size, distance_area};
 ghost use Rattle.distances.specs.Area.{CellsWritten, Line};
 ghost use Rattle.spans.specs.Tree.{Mirror};
-ghost use Rattle.links.specs.Marks.{marked, markCount, mark_of, mark, LinksFound};
+ghost use Rattle.links.specs.Marks.{marked, mark_count, mark_of, mark, LinksFound};
 
 use rules::{DISTANCE_AREA, LINE};
 use spans::{mirrored, spans};
@@ -25,7 +25,7 @@ fn mark_of(distance: u16, span: u16, epsilon: u16) -> u16
 
 // The marks of type j and the types before it.
 fn mark_line(area: &mut [u16], spans: &[u16], epsilon: usize, j: usize)
-    requires { (epsilon ≤ 65535) × (j < mostTypes) × (distanceArea ≤ length area.old) × (lineSize * j + lineSize ≤ length spans.now) }
+    requires { (epsilon ≤ 65535) × (j < most_types) × (distance_area ≤ length area.old) × (line_size * j + line_size ≤ length spans.now) }
     ensures { CellsWritten (Line j j) (mark epsilon spans.now area.old) area.old area.new }
 {
     let from = LINE * j;
@@ -38,7 +38,7 @@ fn mark_line(area: &mut [u16], spans: &[u16], epsilon: usize, j: usize)
 
 // The marks of n types whose mirror cells hold their distances.
 fn mark(area: &mut [u16], spans: &[u16], n: usize, epsilon: usize)
-    requires { (epsilon ≤ 65535) × (n ≤ mostTypes) × (distanceArea ≤ length area.old) × (lineSize * n ≤ length spans.now) }
+    requires { (epsilon ≤ 65535) × (n ≤ most_types) × (distance_area ≤ length area.old) × (line_size * n ≤ length spans.now) }
     ensures { CellsWritten (Mirror n) (mark epsilon spans.now area.old) area.old area.new }
 {
     let mut j = 0;
@@ -50,7 +50,7 @@ fn mark(area: &mut [u16], spans: &[u16], n: usize, epsilon: usize)
 
 // The links of n types at epsilon, by their spans.
 fn link(area: &mut [u16], all: &mut [u16], n: usize, epsilon: usize)
-    requires { (epsilon ≤ 65535) × (n ≤ mostTypes) × (distanceArea ≤ length area.old) × (lineSize * n ≤ length all.old) }
+    requires { (epsilon ≤ 65535) × (n ≤ most_types) × (distance_area ≤ length area.old) × (line_size * n ≤ length all.old) }
     ensures { LinksFound n epsilon area.old area.new }
 {
     spans(area, all, n);
@@ -59,7 +59,7 @@ fn link(area: &mut [u16], all: &mut [u16], n: usize, epsilon: usize)
 
 // The links of n types at epsilon. The spans of few types get little room: what it holds at first does not matter, but is written.
 pub fn find_links(area: &mut [u16], n: usize, epsilon: usize)
-    requires { (epsilon ≤ 65535) × (n ≤ mostTypes) × (distanceArea ≤ length area.old) }
+    requires { (epsilon ≤ 65535) × (n ≤ most_types) × (distance_area ≤ length area.old) }
     ensures { LinksFound n epsilon area.old area.new }
 {
     if n <= 16 {
@@ -73,7 +73,7 @@ pub fn find_links(area: &mut [u16], n: usize, epsilon: usize)
 
 // Whether two types are linked.
 pub fn linked(area: &[u16], i: usize, j: usize) -> bool
-    requires { (i < mostTypes) × (j < mostTypes) × (distanceArea ≤ length area.now) }
+    requires { (i < most_types) × (j < most_types) × (distance_area ≤ length area.now) }
     ensures { result ≡ marked area.now i j }
 {
     i != j && area[mirrored(i, j)] == 1
@@ -88,8 +88,8 @@ fn one(mark: u16) -> u16
 
 // How many of the first n types are linked with type i, none of which is behind it: their marks stand in its line.
 fn links_before(area: &[u16], n: usize, i: usize) -> u16
-    requires { (n ≤ i) × (i < mostTypes) × (distanceArea ≤ length area.now) }
-    ensures { result ≡ markCount area.now n i }
+    requires { (n ≤ i) × (i < most_types) × (distance_area ≤ length area.now) }
+    ensures { result ≡ mark_count area.now n i }
 {
     let from = LINE * i;
     let mut links = 0;
@@ -103,8 +103,8 @@ fn links_before(area: &[u16], n: usize, i: usize) -> u16
 
 // How many of n types are linked with type i. The marks of the types behind it stand in its column.
 pub fn link_count(area: &[u16], n: usize, i: usize) -> usize
-    requires { (n ≤ mostTypes) × (i < mostTypes) × (distanceArea ≤ length area.now) }
-    ensures { result ≡ markCount area.now n i }
+    requires { (n ≤ most_types) × (i < most_types) × (distance_area ≤ length area.now) }
+    ensures { result ≡ mark_count area.now n i }
 {
     let before = if i < n { i } else { n };
     let mut links = links_before(area, before, i);

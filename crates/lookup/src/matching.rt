@@ -2,7 +2,7 @@
 // too. It alters nothing.
 
 ghost use Rattle.std.specs.Prelude.{◌≡◌, ◌≤◌};
-ghost use Rattle.rules.specs.Lookup.{types_in, sampledTypes, headerFits};
+ghost use Rattle.rules.specs.Lookup.{types_in, sampled_types, header_fits};
 ghost use Rattle.lookup.specs.Match.{matches};
 
 use answers::tell;
@@ -13,7 +13,7 @@ use rules::{MOST_TYPES, RECORD_SIZE, RECORDS_OFFSET};
 // The header of a result block of width m, and that the block reaches to the links' offset.
 fn header_fits(block: &[u8], m: usize) -> bool
     requires { m ≤ 65535 }
-    ensures { result ≡ headerFits m block.now (types_in block.now) (sampledTypes block.now) }
+    ensures { result ≡ header_fits m block.now (types_in block.now) (sampled_types block.now) }
 {
     if block.len() < RECORDS_OFFSET {
         return false;

@@ -7,7 +7,7 @@ use native.Mathlib.Decide.{ℕ_discrete}
 use lib.Dec.{eqb}
 use lib.ListN.{length, get_or}
 use borrow.Author.Tests.{ne_eqb}
-use Rattle.graph.proofs.Below.{table-ext}
+use Rattle.graph.proofs.Below.{table_ext}
 use Rattle.rules.specs.Job.{Row}
 use Rattle.rules.specs.Median.{common, median}
 use Rattle.rules.proofs.Between.{common-held}
@@ -33,8 +33,8 @@ module _ (a b c : ℕ) where
     ])
   ]
 
-  common-third : common c c a b ≡ common c a b c
-  common-third = elim (ℕ_discrete a b) [
+  common_third : common c c a b ≡ common c a b c
+  common_third = elim (ℕ_discrete a b) [
     | yes e ↦ common-held c a c a b (inr (inr (refl, e))) ∙ sym (common-held c a a b c (inl (refl, e)))
     | no ne ↦ common-own c a b ne ∙ sym (elim (ℕ_discrete a c) [
       | yes e ↦ common-held c c a b c (inr (inl (sym e, refl)))
@@ -48,8 +48,8 @@ module _ (a b c : ℕ) where
 module _ (u v w : Row) where
   pub median-second : median v v u w ≡ median v u v w
   unfolding median
-  median-second = table-ext (length v) _ _ (λ c h. common-second (get_or u c 0) (get_or v c 0) (get_or w c 0))
+  median-second = table_ext (length v) _ _ (λ c h. common-second (get_or u c 0) (get_or v c 0) (get_or w c 0))
 
-  pub median-third : median w w u v ≡ median w u v w
+  pub median_third : median w w u v ≡ median w u v w
   unfolding median
-  median-third = table-ext (length w) _ _ (λ c h. common-third (get_or u c 0) (get_or v c 0) (get_or w c 0))
+  median_third = table_ext (length w) _ _ (λ c h. common_third (get_or u c 0) (get_or v c 0) (get_or w c 0))

@@ -13,13 +13,13 @@ use Rattle.rules.specs.Distance.{distance}
 use Rattle.rules.specs.Median.{median, medians, connection}
 use Rattle.rules.specs.Call.{padded}
 use Rattle.rules.proofs.Median.{same-connection, median-state, length-median}
-use Rattle.rules.proofs.Between.{median-is, common-held, each-median, one-of-length}
+use Rattle.rules.proofs.Between.{median-is, common-held, each-median, one_of_length}
 use Rattle.types.specs.State.{stored, stored_at}
-use Rattle.types.proofs.State.{length-stored, length-storedAt}
+use Rattle.types.proofs.State.{length-stored, length-stored_at}
 use Rattle.distances.specs.Area.{Weighed}
 use Rattle.distances.proofs.Measured.{distance-stored}
-use Rattle.medians.specs.Cost.{costAt}
-use Rattle.medians.proofs.Costed.{Costed, costOf, costed-small, all-costed}
+use Rattle.medians.specs.Cost.{cost_at}
+use Rattle.medians.proofs.Costed.{Costed, cost_of, costed_small, all_costed}
 
 -- Zeros behind a row change no state of it.
 zeros-behind : (r : Row) (n c : ℕ) → get_or (r ++ replicate n 0) c 0 ≡ get_or r c 0
@@ -62,16 +62,16 @@ module _ (m : ℕ) (small : m ≤ 64) (u v w : Row) (lu : length u ≡ m) (lv : 
 module _ (ws : List ℕ) (states : Bytes) (u v w : ℕ) (weighed : Weighed ws) (iu : 64 * u + 64 ≤ length states)
     (iv : 64 * v + 64 ≤ length states) (iw : 64 * w + 64 ≤ length states) where
   -- At most twice the widest weight for each of 64 characters.
-  pub cost-bound : costAt ws states u v w ≤ 128000
-  cost-bound =
-      let all : Costed ws states u v w 64 (sum 64 (costOf ws states u v w)) = record { passed = omega arith; so_far = refl } in
-      omega (arith, costed-small ws states u v w weighed 64 _ all, all-costed ws states u v w weighed 64 _ iu (omega arith) all)
+  pub cost_bound : cost_at ws states u v w ≤ 128000
+  cost_bound =
+      let all : Costed ws states u v w 64 (sum 64 (cost_of ws states u v w)) = record { passed = omega arith; so_far = refl } in
+      omega (arith, costed_small ws states u v w weighed 64 _ all, all_costed ws states u v w weighed 64 _ iu (omega arith) all)
 
-  pub cost-any : (k : ℕ) → k < 3 →
+  pub cost_any : (k : ℕ) → k < 3 →
       connection ws (row_at (medians (stored_at states u) (stored_at states v) (stored_at states w)) k) (stored_at states u) (stored_at states v) (stored_at states w)
-      ≡ costAt ws states u v w
-  cost-any =
+      ≡ cost_at ws states u v w
+  cost_any =
       let long : (i : ℕ) → 64 * i + 64 ≤ length states → length (stored_at states i) ≡ length ws =
-      λ i h. length-storedAt states i h ∙ sym weighed.size in
-      each-median (λ r. connection ws r (stored_at states u) (stored_at states v) (stored_at states w) ≡ costAt ws states u v w) _ _ _ (λ x o.
-      same-connection ws _ _ _ x (stored_at states u) (one-of-length (length ws) (long u iu) (long v iv) (long w iw) o) (long u iu) o (inl refl))
+      λ i h. length-stored_at states i h ∙ sym weighed.size in
+      each-median (λ r. connection ws r (stored_at states u) (stored_at states v) (stored_at states w) ≡ cost_at ws states u v w) _ _ _ (λ x o.
+      same-connection ws _ _ _ x (stored_at states u) (one_of_length (length ws) (long u iu) (long v iv) (long w iw) o) (long u iu) o (inl refl))

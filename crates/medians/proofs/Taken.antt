@@ -10,7 +10,7 @@ use Rattle.rules.specs.Job.{Bytes}
 use Rattle.rules.specs.Median.{common, median}
 use Rattle.rules.proofs.Between.{median-is}
 use Rattle.types.specs.State.{stored_at}
-use Rattle.types.proofs.State.{length-storedAt, storedAt-state}
+use Rattle.types.proofs.State.{length-stored_at, stored_at-state}
 
 module _ (states : Bytes) (x y z : ℕ) where
   -- Its state in character c.
@@ -38,7 +38,7 @@ module _ (states : Bytes) (x y z : ℕ) where
   pub all-taken : (c : ℕ) (row : Bytes) → 64 * x + 64 ≤ length states → 64 ≤ c → Taken c row →
       row ≡ median (stored_at states x) (stored_at states x) (stored_at states y) (stored_at states z)
   all-taken c row inside h t =
-      sym (median-is _ _ _ _ row (length-storedAt states x inside ∙ sym t.size) (λ k l.
+      sym (median-is _ _ _ _ row (length-stored_at states x inside ∙ sym t.size) (λ k l.
       let n : k < 64 = omega (arith, t.size) in
-      rw (storedAt-state states x k n, storedAt-state states y k n, storedAt-state states z k n)
+      rw (stored_at-state states x k n, stored_at-state states y k n, stored_at-state states z k n)
       (sym (t.so_far k (omega arith)))))

@@ -9,5 +9,5 @@ abbrev pub cost : List ℕ → Row → Row → Row → ℕ
 cost ws u v w = connection ws (median u u v w) u v w
 
 -- Of the types u, v and w.
-abbrev pub costAt : List ℕ → Bytes → ℕ → ℕ → ℕ → ℕ
-costAt ws states u v w = cost ws (stored_at states u) (stored_at states v) (stored_at states w)
+abbrev pub cost_at : List ℕ → Bytes → ℕ → ℕ → ℕ → ℕ
+cost_at ws states u v w = cost ws (stored_at states u) (stored_at states v) (stored_at states w)

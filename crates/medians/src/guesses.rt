@@ -2,9 +2,9 @@
 // table of guesses that may hold any numbers: a guess is checked, and a wrong one costs a search. It reads the state area.
 
 ghost use Rattle.std.specs.Prelude.{◌≡◌, ◌+◌, ◌*◌, ◌≤◌, ltb, length, set};
-ghost use Rattle.rules.specs.Sizes.{mostTypes, rowSize};
-ghost use Rattle.rules.specs.Types.{sameRow};
-ghost use Rattle.medians.specs.Guesses.{slot_of, known_at, rightGuess, guessesOf, guessesSize};
+ghost use Rattle.rules.specs.Sizes.{most_types, row_size};
+ghost use Rattle.rules.specs.Types.{is_same_row};
+ghost use Rattle.medians.specs.Guesses.{slot_of, known_at, right_guess, guesses_of, guesses_size};
 
 use rules::ROW;
 use types::{find_row, row_at};
@@ -14,8 +14,8 @@ pub const GUESSES: usize = 4096;
 
 // Whether two rows of 64 bytes are the same. All bytes are compared.
 pub fn alike(a: &[u8], b: &[u8]) -> bool
-    requires { (length a.now ≡ rowSize) × (length b.now ≡ rowSize) }
-    ensures { result ≡ sameRow a.now b.now }
+    requires { (length a.now ≡ row_size) × (length b.now ≡ row_size) }
+    ensures { result ≡ is_same_row a.now b.now }
 {
     let mut others = 0u8;
     let mut c = 0;
@@ -53,8 +53,8 @@ pub fn guessed(
     guesses: &[u16],
     row: &[u8; ROW],
 ) -> bool
-    requires { (rowSize * made ≤ length states.now) × (rowSize * count ≤ length gathered.now) × (made + count ≤ mostTypes) × (length guesses.now ≡ guessesSize) }
-    ensures { result ≡ rightGuess states.now made gathered.now count guesses.now row.now }
+    requires { (row_size * made ≤ length states.now) × (row_size * count ≤ length gathered.now) × (made + count ≤ most_types) × (length guesses.now ≡ guesses_size) }
+    ensures { result ≡ right_guess states.now made gathered.now count guesses.now row.now }
 {
     let guess = guesses[slot(row)] as usize;
     if guess < made {
@@ -76,7 +76,7 @@ pub fn is_known(
     guesses: &mut [u16],
     row: &[u8; ROW],
 ) -> bool
-    requires { (rowSize * made ≤ length states.now) × (rowSize * count ≤ length gathered.now) × (made + count ≤ mostTypes) × (length guesses.old ≡ guessesSize) }
+    requires { (row_size * made ≤ length states.now) × (row_size * count ≤ length gathered.now) × (made + count ≤ most_types) × (length guesses.old ≡ guesses_size) }
     ensures { (result ≡ ltb (known_at states.now made gathered.now count row.now) (made + count))
         × (guesses.new ≡ set guesses.old (slot_of row.now) (known_at states.now made gathered.now count row.now)) }
 {
@@ -93,8 +93,8 @@ pub fn is_known(
 
 // A table in which every row made guesses its own number.
 pub fn guess_all(states: &[u8], made: usize) -> [u16; GUESSES]
-    requires { (made ≤ mostTypes) × (rowSize * made ≤ length states.now) }
-    ensures { result ≡ guessesOf states.now made }
+    requires { (made ≤ most_types) × (row_size * made ≤ length states.now) }
+    ensures { result ≡ guesses_of states.now made }
 {
     let mut guesses = [256u16; GUESSES];
     let mut i = 0;

@@ -6,11 +6,11 @@ pub mod search;
 pub mod visit;
 
 ghost use Rattle.std.specs.Prelude.{◌≡◌, ◌+◌, ◌*◌, ◌≤◌, length};
-ghost use Rattle.rules.specs.Sizes.{rowSize};
+ghost use Rattle.rules.specs.Sizes.{row_size};
 ghost use Rattle.rules.specs.Median.{common, median, medians, connection};
 ghost use Rattle.types.specs.State.{stored_at};
 ghost use Rattle.distances.specs.Area.{Weighed};
-ghost use Rattle.medians.specs.Cost.{costAt};
+ghost use Rattle.medians.specs.Cost.{cost_at};
 
 use rules::ROW;
 
@@ -24,7 +24,7 @@ fn pick(own: u8, second: u8, third: u8) -> u8
 
 // The median vector of types x, y and z that takes the state of type x where all three differ.
 fn median(states: &[u8], x: usize, y: usize, z: usize) -> [u8; ROW]
-    requires { (rowSize * x + rowSize ≤ length states.now) × (rowSize * y + rowSize ≤ length states.now) × (rowSize * z + rowSize ≤ length states.now) }
+    requires { (row_size * x + row_size ≤ length states.now) × (row_size * y + row_size ≤ length states.now) × (row_size * z + row_size ≤ length states.now) }
     ensures { result ≡ median (stored_at states.now x) (stored_at states.now x) (stored_at states.now y)
         (stored_at states.now z) }
 {
@@ -42,7 +42,7 @@ fn median(states: &[u8], x: usize, y: usize, z: usize) -> [u8; ROW]
 
 // The three median vectors of types u, v and w.
 pub fn medians(states: &[u8], u: usize, v: usize, w: usize) -> [[u8; ROW]; 3]
-    requires { (rowSize * u + rowSize ≤ length states.now) × (rowSize * v + rowSize ≤ length states.now) × (rowSize * w + rowSize ≤ length states.now) }
+    requires { (row_size * u + row_size ≤ length states.now) × (row_size * v + row_size ≤ length states.now) × (row_size * w + row_size ≤ length states.now) }
     ensures { result ≡ medians (stored_at states.now u) (stored_at states.now v) (stored_at states.now w) }
 {
     let first = median(states, u, v, w);
@@ -54,8 +54,8 @@ pub fn medians(states: &[u8], u: usize, v: usize, w: usize) -> [[u8; ROW]; 3]
 // Their connection cost, the same for all three: a character in which two of the types differ costs its weight, and one in which
 // all three differ costs it twice.
 pub fn connection(states: &[u8], weights: &[u16], u: usize, v: usize, w: usize) -> usize
-    requires { Weighed weights.now × (rowSize * u + rowSize ≤ length states.now) × (rowSize * v + rowSize ≤ length states.now) × (rowSize * w + rowSize ≤ length states.now) }
-    ensures { result ≡ costAt weights.now states.now u v w }
+    requires { Weighed weights.now × (row_size * u + row_size ≤ length states.now) × (row_size * v + row_size ≤ length states.now) × (row_size * w + row_size ≤ length states.now) }
+    ensures { result ≡ cost_at weights.now states.now u v w }
 {
     let first = ROW * u;
     let second = ROW * v;

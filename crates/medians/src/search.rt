@@ -2,10 +2,10 @@
 // all candidates below a cost. It reads the state area; the rows gathered lie behind each other in memory of their own.
 
 ghost use Rattle.std.specs.Prelude.{◌≡◌, ◌+◌, ◌*◌, ◌≤◌, ◌<◌, length};
-ghost use Rattle.medians.specs.Guesses.{guessesSize};
-ghost use Rattle.rules.specs.Sizes.{mostTypes, stateArea};
+ghost use Rattle.medians.specs.Guesses.{guesses_size};
+ghost use Rattle.rules.specs.Sizes.{most_types, state_area};
 ghost use Rattle.distances.specs.Area.{Weighed};
-ghost use Rattle.medians.specs.Search.{forLambda, forAll, lowered, filled, withOne, taken, gatheredAfter, Inside};
+ghost use Rattle.medians.specs.Search.{for_lambda, for_all, lowered, filled, with_one, taken, gathered_after, Inside};
 ghost use Rattle.medians.specs.Swept.{Gives, IsMedian, GivesRow, Swept};
 
 use crate::connection;
@@ -31,7 +31,7 @@ pub struct Search {
 impl Search {
     // For lambda, of any cost: none is above 128,000.
     pub fn for_lambda(made: usize) -> Self
-        ensures { result ≡ forLambda made }
+        ensures { result ≡ for_lambda made }
     {
         Search {
             below: ABOVE_ALL_COSTS,
@@ -44,7 +44,7 @@ impl Search {
 
     // For all candidates of a cost below this.
     pub fn for_all(made: usize, below: usize) -> Self
-        ensures { result ≡ forAll made below }
+        ensures { result ≡ for_all made below }
     {
         Search {
             below,
@@ -74,8 +74,8 @@ impl Search {
 
     // One more was gathered.
     fn with_one(mut self) -> Self
-        requires { self.count ≤ mostTypes }
-        ensures { result ≡ withOne self }
+        requires { self.count ≤ most_types }
+        ensures { result ≡ with_one self }
     {
         self.count += 1;
         self
@@ -84,8 +84,8 @@ impl Search {
 
 // A candidate of a cost that matters is met: it lowers the cost looked for, or is put behind those gathered.
 fn take(gathered: &mut [u8], search: Search, row: &[u8; ROW], cost: usize) -> Search
-    requires { (search.made + search.count ≤ mostTypes) × (length gathered.old ≡ stateArea) }
-    ensures { (result ≡ taken search cost) × (gathered.new ≡ gatheredAfter gathered.old search row.now) }
+    requires { (search.made + search.count ≤ most_types) × (length gathered.old ≡ state_area) }
+    ensures { (result ≡ taken search cost) × (gathered.new ≡ gathered_after gathered.old search row.now) }
 {
     if !search.gathering {
         search.lowered(cost)
@@ -107,8 +107,8 @@ pub fn consider(
     t: Triplet,
     row: &[u8; ROW],
 ) -> Search
-    requires { Weighed weights.now × Inside states.now search t × IsMedian states.now t row.now × (length gathered.old ≡ stateArea) × (length guesses.old ≡ guessesSize) }
-    ensures { (length guesses.new ≡ guessesSize)
+    requires { Weighed weights.now × Inside states.now search t × IsMedian states.now t row.now × (length gathered.old ≡ state_area) × (length guesses.old ≡ guesses_size) }
+    ensures { (length guesses.new ≡ guesses_size)
         × Swept (GivesRow weights.now states.now search.made t row.now)
         (Gives weights.now states.now search.made t) gathered.old search gathered.new result }
 {

@@ -1,8 +1,8 @@
 // The corner of visits: the median vectors of one triplet are met. It reads the state area.
 
 ghost use Rattle.std.specs.Prelude.{◌≡◌, length};
-ghost use Rattle.medians.specs.Guesses.{guessesSize};
-ghost use Rattle.rules.specs.Sizes.{stateArea};
+ghost use Rattle.medians.specs.Guesses.{guesses_size};
+ghost use Rattle.rules.specs.Sizes.{state_area};
 ghost use Rattle.distances.specs.Area.{Weighed};
 ghost use Rattle.medians.specs.Search.{Inside};
 ghost use Rattle.medians.specs.Swept.{Gives, Swept};
@@ -21,8 +21,8 @@ pub fn visit(
     search: Search,
     t: Triplet,
 ) -> Search
-    requires { Weighed weights.now × Inside states.now search t × (length gathered.old ≡ stateArea) × (length guesses.old ≡ guessesSize) }
-    ensures { (length guesses.new ≡ guessesSize)
+    requires { Weighed weights.now × Inside states.now search t × (length gathered.old ≡ state_area) × (length guesses.old ≡ guesses_size) }
+    ensures { (length guesses.new ≡ guesses_size)
         × Swept (Gives weights.now states.now search.made t) (Gives weights.now states.now search.made t)
         gathered.old search gathered.new result }
 {

@@ -6,7 +6,7 @@ use native.Mathlib.Omega.{arith}
 use lib.ListN.{length, set, length-append}
 use lib.Seq.{sets-eq}
 use Rattle.graph.specs.Below.{gather}
-use Rattle.graph.proofs.Below.{gather-more, gather-add}
+use Rattle.graph.proofs.Below.{gather-more, gather_add}
 use Rattle.memory.specs.Placed.{placed, Follows}
 use Rattle.memory.proofs.Placed.{placed-none, placed-twice, length-placed}
 
@@ -35,10 +35,10 @@ module _ {A : Type 0} where
     }
 
   -- Many pieces: some of them take no more than all; one more, and the room for it.
-  pub pieces-within : (f : ℕ → List A) (t n : ℕ) → n ≤ t → length (gather n f) ≤ length (gather t f)
-  pieces-within f t n h =
+  pub pieces_within : (f : ℕ → List A) (t n : ℕ) → n ≤ t → length (gather n f) ≤ length (gather t f)
+  pieces_within f t n h =
       let e : n + (t - n) ≡ t = omega arith in
-      omega (arith, simp length-append at (ap length (sym (gather-add n (t - n) f) ∙ ap (λ (k : ℕ). gather k f) e)))
+      omega (arith, simp length-append at (ap length (sym (gather_add n (t - n) f) ∙ ap (λ (k : ℕ). gather k f) e)))
 
   module _ (f : ℕ → List A) {b b' : List A} {at k : ℕ} (n : ℕ) (w : Follows b at (gather n f) b' k) where
     pub follows-more : {b'' : List A} {r : ℕ} → at ≤ length b → Follows b' k (f n) b'' r → Follows b at (gather (n + 1) f) b'' r
@@ -46,4 +46,4 @@ module _ {A : Type 0} where
 
     pub follows-room : (t : ℕ) → n < t → at + length (gather t f) ≤ length b → k + length (f n) ≤ length b
     follows-room t h room =
-        omega (arith, w.behind, pieces-within f t (n + 1) (omega arith), simp length-append at (ap length (gather-more n f)))
+        omega (arith, w.behind, pieces_within f t (n + 1) (omega arith), simp length-append at (ap length (gather-more n f)))

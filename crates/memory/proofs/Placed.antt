@@ -11,7 +11,7 @@ use borrow.Author.Count.{below_more}
 use Rattle.graph.specs.Below.{table}
 use Rattle.graph.proofs.Below.{length-table, table_more}
 use Rattle.rules.specs.Call.{padded}
-use Rattle.rules.proofs.Block.{Stands, stands-getD}
+use Rattle.rules.proofs.Block.{Stands, stands_get_or}
 use Rattle.memory.specs.Placed.{placed}
 
 module _ {A : Type 0} where
@@ -24,9 +24,9 @@ module _ {A : Type 0} where
     length_front = rw (length-append, length-take-le at b room)
 
     -- What is placed stands there (rules has the laws of `Stands`), and the rest is as it was.
-    pub stands-placed : Stands (placed b at xs) at xs
+    pub stands_placed : Stands (placed b at xs) at xs
     unfolding placed
-    stands-placed =
+    stands_placed =
         let behind = drop (at + length xs) b in
         record { before = take at b; behind = behind; is = append_assoc (take at b) xs behind; from = length-take-le at b room }
 
@@ -44,21 +44,21 @@ module _ {A : Type 0} where
         let e : k ≡ length p + (k - n) = omega (arith, length_front) in
         rw e (drop-append-add p (drop n b) (k - n) ∙ drop-drop (k - n) n b ∙ ap (λ (i : ℕ). drop (i + (k - n)) b) (sym length_front))
 
-    pub getD-placed : (i : ℕ) (d : A) → i < length xs → get_or (placed b at xs) (at + i) d ≡ get_or xs i d
-    getD-placed i d l = stands-getD stands-placed i d l
+    pub get_or-placed : (i : ℕ) (d : A) → i < length xs → get_or (placed b at xs) (at + i) d ≡ get_or xs i d
+    get_or-placed i d l = stands_get_or stands_placed i d l
 
-    pub getD-placed-before : (i : ℕ) (d : A) → i < at → get_or (placed b at xs) i d ≡ get_or b i d
-    getD-placed-before i d l =
+    pub get_or-placed-before : (i : ℕ) (d : A) → i < at → get_or (placed b at xs) i d ≡ get_or b i d
+    get_or-placed-before i d l =
         sym (get_or-take at (placed b at xs) i d l) ∙ rw (take-placed at (omega arith)) (get_or-take at b i d l)
 
-    pub getD-placed-behind : (i : ℕ) (d : A) → at + length xs ≤ i → get_or (placed b at xs) i d ≡ get_or b i d
-    getD-placed-behind i d l =
+    pub get_or-placed-behind : (i : ℕ) (d : A) → at + length xs ≤ i → get_or (placed b at xs) i d ≡ get_or b i d
+    get_or-placed-behind i d l =
         rw (← add-zero i) (sym (get_or-drop i (placed b at xs) 0 d) ∙ rw (drop-placed i l) (get_or-drop i b 0 d))
 
     -- What is placed over it, and is no shorter, leaves nothing of it.
-    pub placed-over : (ys : List A) → length xs ≤ length ys → placed (placed b at xs) at ys ≡ placed b at ys
+    pub placed_over : (ys : List A) → length xs ≤ length ys → placed (placed b at xs) at ys ≡ placed b at ys
     unfolding placed
-    placed-over ys l =
+    placed_over ys l =
         ap₂ (λ (f r : List A). f ++ ys ++ r) (take-placed at (omega arith)) (drop-placed (at + length ys) (omega arith))
 
     -- Placed behind what was placed, both are placed as one.

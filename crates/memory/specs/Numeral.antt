@@ -6,8 +6,8 @@ use Rattle.memory.specs.declared.numerals.Numeral.{Numeral}
 use Rattle.memory.specs.declared.numerals.Numeral.TheVariants.{Number, Other}
 
 -- `0` to `9`.
-abbrev pub isDigit : ℕ → Bool
-isDigit x = not (outside 48 57 x)
+abbrev pub is_digit : ℕ → Bool
+is_digit x = not (outside 48 57 x)
 
 -- The number that the first i digits write.
 unfoldable pub value_of : Bytes → ℕ → ℕ
@@ -15,11 +15,11 @@ value_of xs zero = 0
 value_of xs (suc i) = 10 * value_of xs i + (get_or xs i 0 - 48)
 
 -- At least one byte, and digits alone.
-unfoldable pub isDecimal : Bytes → Bool
-isDecimal xs = ltb 0 (length xs) && every (length xs) (λ i. isDigit (get_or xs i 0))
+unfoldable pub is_decimal : Bytes → Bool
+is_decimal xs = ltb 0 (length xs) && every (length xs) (λ i. is_digit (get_or xs i 0))
 
 -- The number, where it has at most 16 bits.
 unfoldable pub numeral : Bytes → Numeral
 numeral xs =
     let value = value_of xs (length xs) in
-    cond (isDecimal xs && not (ltb 65535 value)) (Number value) Other
+    cond (is_decimal xs && not (ltb 65535 value)) (Number value) Other

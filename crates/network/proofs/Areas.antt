@@ -31,9 +31,9 @@ module _ (x : Areas) where
   abbrev pub vals : Vals call'.signature lfts
   vals = (value x.job ∷ [], (value x.result ∷ [], (value x.states ∷ [], (value x.distances ∷ [], (value x.links ∷ [], tt)))))
 
-abbrev pub areas-of : (κs : Lfts 5) (qs : Shares 5) (a : Args call'.signature κs) {vss : Vals call'.signature κs} →
+abbrev pub areas_of : (κs : Lfts 5) (qs : Shares 5) (a : Args call'.signature κs) {vss : Vals call'.signature κs} →
     Are (types_at (call'.signature).params κs) (Ises (types_at (call'.signature).params κs)) a vss → Areas
-areas-of κs qs a are = record {
+areas_of κs qs a are = record {
   job = record { lft = κs.0; share = qs.0; ref = a.0; fits = are.0.0.1.0 };
   result = record { lft = κs.1.0; share = qs.1.0; ref = a.1.0; fits = are.1.0.0.1.0 };
   states = record { lft = κs.1.1.0; share = qs.1.1.0; ref = a.1.1.0; fits = are.1.1.0.0.1.0 };

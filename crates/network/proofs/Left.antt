@@ -9,33 +9,33 @@ use Rattle.graph.specs.Below.{gather}
 use Rattle.graph.proofs.Below.{gather_ext}
 use Rattle.rules.specs.Job.{Bytes, width}
 use Rattle.rules.specs.Lent.{Lent}
-use Rattle.rules.specs.Call.{Verdict, refused, found, verdict, written, resultAfter}
+use Rattle.rules.specs.Call.{Verdict, refused, found, verdict, written, result_after}
 use Rattle.rules.specs.declared.Link.{Link}
 use Rattle.memory.specs.Placed.{placed}
-use Rattle.memory.proofs.Placed.{placed-none, placed-twice, getD-placed, length-placed, placed-padded}
+use Rattle.memory.proofs.Placed.{placed-none, placed-twice, get_or-placed, length-placed, placed-padded}
 use Rattle.readback.proofs.Lent.{enough}
 use Rattle.readback.proofs.Found.{found-is}
 use Rattle.readback.proofs.Result.{writable, few-links, block-short}
 use Rattle.result.specs.Order.{no_link}
-use Rattle.purge.specs.Network.{linksIn}
+use Rattle.purge.specs.Network.{links_in}
 use Rattle.result.proofs.Parts.{block-is, block_size}
-use Rattle.result.specs.Table.{Listable, linkBytes, tableBytes}
+use Rattle.result.specs.Table.{Listable, link_bytes, table_bytes}
 use Rattle.network.specs.declared.draw.Sketch.{Sketch}
-use Rattle.network.specs.Drawn.{sketched, verdictLinks, verdictTypes}
+use Rattle.network.specs.Drawn.{sketched, verdict_links, verdict_types}
 use Rattle.network.specs.Called.{lent_by, Unlinked, Called}
 
 -- ── A verdict's links ──
 
 -- They fit what is lent, and the distance area is long enough where there is one.
 record Fits (lent : Lent) (m : ℕ) (v : Verdict) : Type 0 where
-  few : verdictTypes v ≤ 128
-  table-room : length (verdictLinks v) ≤ lent.links
-  cells : 1 ≤ length (verdictLinks v) → 16384 ≤ lent.distances
-  result-room : length (sketched m v) + 6 * length (verdictLinks v) ≤ lent.result
+  few : verdict_types v ≤ 128
+  table-room : length (verdict_links v) ≤ lent.links
+  cells : 1 ≤ length (verdict_links v) → 16384 ≤ lent.distances
+  result-room : length (sketched m v) + 6 * length (verdict_links v) ≤ lent.result
 
-links-fit : (lent : Lent) (job : Bytes) (v : Verdict) → verdict lent job ≡ v → Fits lent (width job) v
-links-fit lent job (refused a) e = record { few = omega arith; table-room = omega arith; cells = λ h. absurd (omega (arith, h)); result-room = omega arith }
-links-fit lent job (found net) e =
+links_fit : (lent : Lent) (job : Bytes) (v : Verdict) → verdict lent job ≡ v → Fits lent (width job) v
+links_fit lent job (refused a) e = record { few = omega arith; table-room = omega arith; cells = λ h. absurd (omega (arith, h)); result-room = omega arith }
+links_fit lent job (found net) e =
     let long = enough lent (found-is lent job net e).areas in
     record {
       few = (writable lent job net e).few;
@@ -45,29 +45,29 @@ links-fit lent job (found net) e =
     }
 
 -- Behind what is sketched they complete what the rules write.
-completed : (b : Bytes) (m : ℕ) (v : Verdict) → placed (placed b 0 (sketched m v)) (length (sketched m v)) (tableBytes (length (verdictLinks v)) (verdictLinks v)) ≡ placed b 0 (written m v)
-unfolding tableBytes gather
+completed : (b : Bytes) (m : ℕ) (v : Verdict) → placed (placed b 0 (sketched m v)) (length (sketched m v)) (table_bytes (length (verdict_links v)) (verdict_links v)) ≡ placed b 0 (written m v)
+unfolding table_bytes gather
 completed b m (refused a) = sym (placed-none (placed b 0 (sketched m (refused a))) 0)
 completed b m (found net) = placed-twice b (sketched m (found net)) 0 (omega arith) _ _ (omega arith) ∙ ap (placed b 0) (sym (block-is m net))
 
 -- A table that begins with them has their bytes in front.
-table-part : (links ls : List Link) → tableBytes (length ls) (placed links 0 ls) ≡ tableBytes (length ls) ls
-unfolding tableBytes
-table-part links ls = gather_ext (length ls) _ _ (λ k h. ap linkBytes (rw (zero-add k) at (getD-placed links ls 0 (omega arith) k no_link h)))
+table-part : (links ls : List Link) → table_bytes (length ls) (placed links 0 ls) ≡ table_bytes (length ls) ls
+unfolding table_bytes
+table-part links ls = gather_ext (length ls) _ _ (λ k h. ap link_bytes (rw (zero-add k) at (get_or-placed links ls 0 (omega arith) k no_link h)))
 
 -- ── After the call ──
 
 -- What is written to the front of zeros is the result that the rules leave.
 result-after : (lent : Lent) (job result' : Bytes) → result' ≡ placed (replicate lent.result 0) 0 (written (width job) (verdict lent job)) →
-    result' ≡ resultAfter lent job
-unfolding resultAfter
+    result' ≡ result_after lent job
+unfolding result_after
 result-after lent job result' e = e ∙ placed-padded lent.result (written (width job) (verdict lent job))
 
 -- Zeros at every place.
-pub zero-at : (n i : ℕ) → ◌≡◌ {A = ℕ} (get_or (replicate n 0) i 0) 0
-zero-at zero i = refl
-zero-at (suc n) zero = refl
-zero-at (suc n) (suc i) = zero-at n i
+pub zero_at : (n i : ℕ) → ◌≡◌ {A = ℕ} (get_or (replicate n 0) i 0) 0
+zero_at zero i = refl
+zero_at (suc n) zero = refl
+zero_at (suc n) (suc i) = zero_at n i
 
 module _ (job result states : Bytes) (distances : List ℕ) (links : List Link) {result' states' : Bytes} {distances' : List ℕ} {r : Sketch}
     (a : Unlinked job result states distances (length links) r result' states' distances') where
@@ -78,7 +78,7 @@ module _ (job result states : Bytes) (distances : List ℕ) (links : List Link) 
   v = verdict lent job
 
   fits : Fits lent (width job) v
-  fits = links-fit lent job v refl
+  fits = links_fit lent job v refl
 
   -- The links that the distance area tells can be listed in the table.
   pub listable : Listable distances' r.types r.links links
@@ -86,17 +86,17 @@ module _ (job result states : Bytes) (distances : List ℕ) (links : List Link) 
       let w = a.wrote in
       record {
         few = rw w.types_are fits.few;
-        counted = w.count-is ∙ ap length (sym w.links-are);
-        room = rw w.count-is fits.table-room;
-        cells = λ h. rw a.distances-size (fits.cells (rw w.count-is at h));
+        counted = w.count_is ∙ ap length (sym w.links_are);
+        room = rw w.count_is fits.table-room;
+        cells = λ h. rw a.distances_size (fits.cells (rw w.count_is at h));
       }
 
-  module _ {links₁ : List Link} (listed : links₁ ≡ placed links 0 (linksIn r.types distances')) where
+  module _ {links₁ : List Link} (listed : links₁ ≡ placed links 0 (links_in r.types distances')) where
     abbrev ls : List Link
-    ls = verdictLinks v
+    ls = verdict_links v
 
     listed-is : links₁ ≡ placed links 0 ls
-    listed-is = listed ∙ ap (placed links 0) a.wrote.links-are
+    listed-is = listed ∙ ap (placed links 0) a.wrote.links_are
 
     table-size : length links₁ ≡ length links
     table-size = rw listed-is (length-placed links ls 0 (omega (arith, fits.table-room)))
@@ -106,25 +106,25 @@ module _ (job result states : Bytes) (distances : List ℕ) (links : List Link) 
     putable =
         let w = a.wrote in
         let front = sketched (width job) v in
-        let size : length result' ≡ length result = rw w.result-is (length-placed _ front 0 (rw (length-replicate {A = ℕ}) (omega (arith, fits.result-room))) ∙ length-replicate _ _) in
-        (rw (table-size, w.count-is) fits.table-room, rw (w.at-is, w.count-is, size) fits.result-room)
+        let size : length result' ≡ length result = rw w.result_is (length-placed _ front 0 (rw (length-replicate {A = ℕ}) (omega (arith, fits.result-room))) ∙ length-replicate _ _) in
+        (rw (table-size, w.count_is) fits.table-room, rw (w.at_is, w.count_is, size) fits.result-room)
 
     -- Everything lent, after the call.
-    pub called : {result'' : Bytes} {distances'' : List ℕ} {links₂ : List Link} → result'' ≡ placed result' r.at (tableBytes r.links links₁) →
+    pub called : {result'' : Bytes} {distances'' : List ℕ} {links₂ : List Link} → result'' ≡ placed result' r.at (table_bytes r.links links₁) →
         links₂ ≡ replicate (length links₁) no_link → distances'' ≡ replicate (length distances') 0 →
         Called job result states distances links r.answer result'' states' distances'' links₂
     called {result''} p c d =
         let w = a.wrote in
         let zeros : Bytes = replicate (length result) 0 in
         let front = sketched (width job) v in
-        let part : tableBytes r.links links₁ ≡ tableBytes (length ls) ls = rw (w.count-is, listed-is) (table-part links ls) in
-        let whole : result'' ≡ placed zeros 0 (written (width job) v) = p ∙ rw (part, w.result-is, w.at-is) (completed zeros (width job) v) in
+        let part : table_bytes r.links links₁ ≡ table_bytes (length ls) ls = rw (w.count_is, listed-is) (table-part links ls) in
+        let whole : result'' ≡ placed zeros 0 (written (width job) v) = p ∙ rw (part, w.result_is, w.at_is) (completed zeros (width job) v) in
         record {
           served = record {
             answered = w.answered;
-            result-left = result-after lent job result'' whole;
-            states-left = a.states-left;
-            distances-left = d ∙ ap (λ n. replicate n 0) a.distances-size;
-            links-left = c ∙ ap (λ n. replicate n no_link) table-size;
+            result_left = result-after lent job result'' whole;
+            states_left = a.states_left;
+            distances_left = d ∙ ap (λ n. replicate n 0) a.distances_size;
+            links_left = c ∙ ap (λ n. replicate n no_link) table-size;
           };
         }

@@ -19,12 +19,12 @@ pub record Called (job result states : Bytes) (distances : List ℕ) (links : Li
 
 -- The job is answered up to its links: what is written and what keeps its length.
 pub record Answered (job result states : Bytes) (distances : List ℕ) (links : ℕ) (r : Sketch) (result' states' : Bytes) (distances' : List ℕ) : Type 0 where
-  pub states-size : length states' ≡ length states
-  pub distances-size : length distances' ≡ length distances
+  pub states_size : length states' ≡ length states
+  pub distances_size : length distances' ≡ length distances
   pub wrote : Sketched (lengths (length result) (length states) (length distances) links) job result r result' distances'
 
 -- The same over a result that is cleared first, and with no state left. The distance area is still needed.
 pub record Unlinked (job result states : Bytes) (distances : List ℕ) (links : ℕ) (r : Sketch) (result' states' : Bytes) (distances' : List ℕ) : Type 0 where
-  pub states-left : states' ≡ replicate (length states) 0
-  pub distances-size : length distances' ≡ length distances
+  pub states_left : states' ≡ replicate (length states) 0
+  pub distances_size : length distances' ≡ length distances
   pub wrote : Sketched (lengths (length result) (length states) (length distances) links) job (replicate (length result) 0) r result' distances'

@@ -2,7 +2,7 @@
 // it. It writes the state area and the distance area, and the front of the result.
 
 ghost use Rattle.std.specs.Prelude.{◌≡◌, ◌≤◌, length};
-ghost use Rattle.rules.specs.Sizes.{resultArea, stateArea, distanceArea};
+ghost use Rattle.rules.specs.Sizes.{result_area, state_area, distance_area};
 ghost use Rattle.rules.specs.Answers.{number};
 ghost use Rattle.rules.specs.Job.{checked};
 ghost use Rattle.network.specs.Drawn.{unsketched, Drawn};
@@ -36,7 +36,7 @@ pub fn nothing(answer: Answer) -> Sketch
 
 // The network of a job that passed checks 1 to 7, run and then written; or the refusals 8 and 9.
 pub fn draw(job: &[u8], res: &mut [u8], states: &mut [u8], distances: &mut [u16]) -> Sketch
-    requires { (number (checked job.now) ≡ 0) × (resultArea ≤ length res.old) × (stateArea ≤ length states.old) × (distanceArea ≤ length distances.old) }
+    requires { (number (checked job.now) ≡ 0) × (result_area ≤ length res.old) × (state_area ≤ length states.old) × (distance_area ≤ length distances.old) }
     ensures { Drawn job.now res.old states.old distances.old result res.new states.new distances.new }
 {
     let end = run(job, states, distances);

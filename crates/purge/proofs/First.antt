@@ -9,24 +9,24 @@ use Rattle.rules.specs.Job.{Bytes}
 use Rattle.rules.specs.Types.{Node, rows_of}
 use Rattle.rules.specs.Call.{padded}
 use Rattle.memory.proofs.Placed.{placed-padded}
-use Rattle.types.specs.State.{laid, kindsOf}
+use Rattle.types.specs.State.{laid, kinds_of}
 use Rattle.types.proofs.State.{OfWidth, laid-at}
-use Rattle.distances.specs.Area.{CellsWritten, New, storedApart}
-use Rattle.distances.proofs.Measured.{measures-all}
+use Rattle.distances.specs.Area.{CellsWritten, New, stored_apart}
+use Rattle.distances.proofs.Measured.{measures_all}
 use Rattle.purge.specs.Holds.{Holds}
 use Rattle.purge.specs.declared.state.Phase.{Phase}
 
-all-zero : (n p : ℕ) → get_or {A = ℕ} (replicate n 0) p 0 ≡ 0
-all-zero zero p = refl
-all-zero (suc n) zero = refl
-all-zero (suc n) (suc p) = all-zero n p
+all_zero : (n p : ℕ) → get_or {A = ℕ} (replicate n 0) p 0 ≡ 0
+all_zero zero p = refl
+all_zero (suc n) zero = refl
+all_zero (suc n) (suc p) = all_zero n p
 
 module _ (m : ℕ) (ws : List ℕ) (ts : List Node) (few : length ts ≤ 128) (narrow : m ≤ 64) (wide : OfWidth m (rows_of ts)) (weighed : length ws ≡ m)
     (states : Bytes) (lie : states ≡ padded (length states) (laid (rows_of ts))) where
   pub holds-first : (N : ℕ) (area : List ℕ) (phase : Phase) →
-      CellsWritten (New 0 (length ts)) (storedApart (padded 64 ws) states) (replicate N 0) area →
+      CellsWritten (New 0 (length ts)) (stored_apart (padded 64 ws) states) (replicate N 0) area →
       Holds m ws (record { current = ts; retired = []; rounds = 0 }) states area
-      (record { state = record { types = length ts; made = length ts; rounds = 0; phase = phase }; kinds = kindsOf ts })
+      (record { state = record { types = length ts; made = length ts; rounds = 0; phase = phase }; kinds = kinds_of ts })
   holds-first N area phase w =
       let n = length-map ts (λ (t : Node). t.row) in
       let at = lie ∙ sym (placed-padded (length states) (laid (rows_of ts))) in
@@ -34,11 +34,11 @@ module _ (m : ℕ) (ws : List ℕ) (ts : List Node) (few : length ts ≤ 128) (n
         narrow = narrow;
         wide = rw append-nil wide;
         types_are = refl;
-        made-are = rw append-nil (sym n);
-        rounds-are = refl;
-        kinds-are = refl;
-        states-are = rw append-nil lie;
-        distances-are = measures-all m (rows_of ts) narrow wide ws weighed states
+        made_are = rw append-nil (sym n);
+        rounds_are = refl;
+        kinds_are = refl;
+        states_are = rw append-nil lie;
+        distances_are = measures_all m (rows_of ts) narrow wide ws weighed states
             (λ i h. rw at (laid-at m (rows_of ts) narrow wide (replicate (length states) 0) i h)) (replicate N 0) area (omega arith) (rw n w);
-        rest-zero = λ p other. w.kept p (λ i j t. other i j (omega (arith, t.rising, t.last)) t.last (omega (arith, t.rising))) ∙ all-zero N p;
+        rest_zero = λ p other. w.kept p (λ i j t. other i j (omega (arith, t.rising, t.last)) t.last (omega (arith, t.rising))) ∙ all_zero N p;
       }

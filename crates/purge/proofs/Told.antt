@@ -9,12 +9,12 @@ use Rattle.graph.specs.Below.{gather, only}
 use Rattle.graph.proofs.Below.{gather_ext}
 use Rattle.rules.specs.Job.{Bytes}
 use Rattle.rules.specs.Types.{rows_of}
-use Rattle.rules.specs.Purge.{Run, linksOf, obsolete, someObsolete}
+use Rattle.rules.specs.Purge.{Run, links_of, obsolete, some_obsolete}
 use Rattle.types.specs.State.{blank}
 use Rattle.types.proofs.State.{kinds-at}
 use Rattle.links.specs.Marks.{LinksFound, TellsLinks}
-use Rattle.links.proofs.Told.{measures-still, told, counted}
-use Rattle.purge.specs.Stay.{obsoleteIn, staying, Stays}
+use Rattle.links.proofs.Told.{measures_still, told, counted}
+use Rattle.purge.specs.Stay.{obsolete_in, staying, Stays}
 use Rattle.purge.specs.Holds.{Holds}
 use Rattle.purge.specs.declared.state.Held.{Held}
 use Rattle.purge.specs.declared.stay.Stay.{Stay}
@@ -30,35 +30,35 @@ module _ {m : ℕ} {ws : List ℕ} {run : Run} {states : Bytes} {area : List ℕ
 
   -- Only mirror cells of current types change.
   module _ {e : ℕ} {area' : List ℕ} (found : LinksFound held.state.types e area area') where
-    of-rows : LinksFound (length (rows_of run.current)) e area area'
-    of-rows = rw rows-count found
+    of_rows : LinksFound (length (rows_of run.current)) e area area'
+    of_rows = rw rows-count found
 
-    pub survey-holds : Holds m ws run states area' held
-    survey-holds = record {
+    pub survey_holds : Holds m ws run states area' held
+    survey_holds = record {
       narrow = holds.narrow;
       wide = holds.wide;
       types_are = holds.types_are;
-      made-are = holds.made-are;
-      rounds-are = holds.rounds-are;
-      kinds-are = holds.kinds-are;
-      states-are = holds.states-are;
-      distances-are = measures-still ws e (rows_of run.current) rows_few holds.distances-are of-rows;
-      rest-zero = λ p other. let g = holds.types_are in
-          found.kept p (λ i j h l. other j i (omega arith) (omega arith) (omega arith)) ∙ holds.rest-zero p other;
+      made_are = holds.made_are;
+      rounds_are = holds.rounds_are;
+      kinds_are = holds.kinds_are;
+      states_are = holds.states_are;
+      distances_are = measures_still ws e (rows_of run.current) rows_few holds.distances_are of_rows;
+      rest_zero = λ p other. let g = holds.types_are in
+          found.kept p (λ i j h l. other j i (omega arith) (omega arith) (omega arith)) ∙ holds.rest_zero p other;
     }
 
-    pub survey-tells : TellsLinks ws e (rows_of run.current) area'
-    survey-tells = told ws e (rows_of run.current) rows_few holds.distances-are of-rows
+    pub survey_tells : TellsLinks ws e (rows_of run.current) area'
+    survey_tells = told ws e (rows_of run.current) rows_few holds.distances_are of_rows
 
   -- Obsolete as memory tells it is obsolete by the rules.
   module _ {e : ℕ} (tells : TellsLinks ws e (rows_of run.current) area) where
     abbrev goes : ℕ → Bool
-    goes = obsolete run.current (linksOf ws e run)
+    goes = obsolete run.current (links_of ws e run)
 
-    told-obsolete : (i : ℕ) → i < held.state.types → obsoleteIn area held.state.types (get_or held.kinds i blank) i ≡ goes i
+    told-obsolete : (i : ℕ) → i < held.state.types → obsolete_in area held.state.types (get_or held.kinds i blank) i ≡ goes i
     told-obsolete i h =
         let links = counted ws e (rows_of run.current) rows_few tells i (rw rows-count h) in
-        rw (holds.kinds-are, kinds-at run.current i (omega arith), ← rows-count, links)
+        rw (holds.kinds_are, kinds-at run.current i (omega arith), ← rows-count, links)
 
     pub staying-is : staying area held.kinds held.state.types ≡ gather (length run.current) (λ i. only (not (goes i)) i)
     unfolding staying
@@ -66,8 +66,8 @@ module _ {m : ℕ} {ws : List ℕ} {run : Run} {states : Bytes} {area : List ℕ
 
     -- Where fewer stay than there are types, some are obsolete; else none is.
     module _ {stay : Stay} (stays : Stays (staying area held.kinds held.state.types) stay) where
-      pub fewer-stay : stay.count < held.state.types → someObsolete (linksOf ws e run) run ≡ true
-      fewer-stay h = some_go (length run.current) goes (rw (← staying-is, ← stays.count-is, ← holds.types_are) h)
+      pub fewer-stay : stay.count < held.state.types → some_obsolete (links_of ws e run) run ≡ true
+      fewer-stay h = some_go (length run.current) goes (rw (← staying-is, ← stays.count_is, ← holds.types_are) h)
 
-      pub all_stay : held.state.types ≤ stay.count → someObsolete (linksOf ws e run) run ≡ false
-      all_stay h = none-goes (length run.current) goes (rw (← staying-is, ← stays.count-is, ← holds.types_are) h)
+      pub all_stay : held.state.types ≤ stay.count → some_obsolete (links_of ws e run) run ≡ false
+      all_stay h = none-goes (length run.current) goes (rw (← staying-is, ← stays.count_is, ← holds.types_are) h)

@@ -5,9 +5,9 @@ use Rattle.purge.specs.declared.state.Phase.{Phase}
 use Rattle.purge.specs.declared.state.Phase.TheVariants.{One, Two}
 
 -- Phase I is at epsilon, Phase II at 0.
-abbrev pub epsilonOf : Phase → ℕ
-epsilonOf (One epsilon) = epsilon
-epsilonOf Two = 0
+abbrev pub epsilon_of : Phase → ℕ
+epsilon_of (One epsilon) = epsilon
+epsilon_of Two = 0
 
 -- Some types are retired, and so many stay.
 abbrev pub keeping : State → ℕ → State
@@ -18,5 +18,5 @@ abbrev pub grown : State → ℕ → State
 grown state count = record { types = state.types + count; made = state.made + count; rounds = state.rounds + 1; phase = state.phase }
 
 -- Phase I is over.
-abbrev pub secondPhase : State → State
-secondPhase state = record { types = state.types; made = state.made; rounds = state.rounds; phase = Two }
+abbrev pub second_phase : State → State
+second_phase state = record { types = state.types; made = state.made; rounds = state.rounds; phase = Two }

@@ -7,9 +7,9 @@ pub mod state;
 pub mod stay;
 
 ghost use Rattle.std.specs.Prelude.{◌≤◌, length};
-ghost use Rattle.rules.specs.Sizes.{mostTypes, stateArea, distanceArea};
+ghost use Rattle.rules.specs.Sizes.{most_types, state_area, distance_area};
 ghost use Rattle.purge.specs.Left.{Chosen};
-ghost use Rattle.purge.specs.State.{epsilonOf};
+ghost use Rattle.purge.specs.State.{epsilon_of};
 ghost use Rattle.purge.specs.Once.{Once, Surveyed};
 ghost use Rattle.purge.specs.Holds.{Purged};
 
@@ -20,7 +20,7 @@ use links::find_links;
 
 // RULES 8.2: one pass. The types at the places of `stay` stay, the others go.
 fn purge_once(states: &mut [u8], area: &mut [u16], held: Held, stay: Stay) -> Held
-    requires { Chosen stay.kept stay.count held.state.types × (held.state.types ≤ held.state.made) × (held.state.made ≤ mostTypes) × (stateArea ≤ length states.old) × (distanceArea ≤ length area.old) }
+    requires { Chosen stay.kept stay.count held.state.types × (held.state.types ≤ held.state.made) × (held.state.made ≤ most_types) × (state_area ≤ length states.old) × (distance_area ≤ length area.old) }
     ensures { Once states.old area.old held stay states.new area.new result }
 {
     let state = held.state;
@@ -38,7 +38,7 @@ fn purge_once(states: &mut [u8], area: &mut [u16], held: Held, stay: Stay) -> He
 
 // The links of the current types at the phase's epsilon, and which types stay by them.
 fn survey(area: &mut [u16], held: Held) -> Stay
-    requires { (held.state.types ≤ mostTypes) × (epsilonOf held.state.phase ≤ 65535) × (distanceArea ≤ length area.old) }
+    requires { (held.state.types ≤ most_types) × (epsilon_of held.state.phase ≤ 65535) × (distance_area ≤ length area.old) }
     ensures { Surveyed area.old held area.new result }
 {
     let state = held.state;
@@ -50,7 +50,7 @@ fn survey(area: &mut [u16], held: Held) -> Stay
 
 // RULES 8.2: passes until nothing is obsolete, each with links of its own.
 pub fn purge(states: &mut [u8], area: &mut [u16], held: Held) -> Held
-    requires { (held.state.types ≤ held.state.made) × (held.state.made ≤ mostTypes) × (epsilonOf held.state.phase ≤ 65535) × (stateArea ≤ length states.old) × (distanceArea ≤ length area.old) }
+    requires { (held.state.types ≤ held.state.made) × (held.state.made ≤ most_types) × (epsilon_of held.state.phase ≤ 65535) × (state_area ≤ length states.old) × (distance_area ≤ length area.old) }
     ensures { Purged states.old area.old held states.new area.new result }
 {
     let mut now = held;

@@ -2,8 +2,8 @@
 // touches no memory.
 
 ghost use Rattle.std.specs.Prelude.{◌≡◌, ◌+◌, ◌≤◌};
-ghost use Rattle.rules.specs.Sizes.{mostTypes};
-ghost use Rattle.purge.specs.State.{epsilonOf, keeping, grown, secondPhase};
+ghost use Rattle.rules.specs.Sizes.{most_types};
+ghost use Rattle.purge.specs.State.{epsilon_of, keeping, grown, second_phase};
 
 use rules::{Kind, MOST_TYPES};
 
@@ -26,7 +26,7 @@ pub struct State {
 impl State {
     // The epsilon that links are found at.
     pub fn epsilon(self) -> usize
-        ensures { result ≡ epsilonOf self.phase }
+        ensures { result ≡ epsilon_of self.phase }
     {
         let phase = self.phase;
         match phase {
@@ -45,7 +45,7 @@ impl State {
 
     // A round added so many types.
     pub fn grown(mut self, count: usize) -> Self
-        requires { (self.types ≤ mostTypes) × (self.made + count ≤ mostTypes) × (self.rounds ≤ mostTypes) }
+        requires { (self.types ≤ most_types) × (self.made + count ≤ most_types) × (self.rounds ≤ most_types) }
         ensures { result ≡ grown self count }
     {
         self.types += count;
@@ -56,7 +56,7 @@ impl State {
 
     // Phase I is over.
     pub fn second_phase(self) -> Self
-        ensures { result ≡ secondPhase self }
+        ensures { result ≡ second_phase self }
     {
         State {
             types: self.types,

@@ -1,8 +1,8 @@
 // The corner of the types that stay: an inferred type with at most two links is obsolete, and all others stay. It reads the distance area.
 
 ghost use Rattle.std.specs.Prelude.{◌≡◌, ◌≤◌, ◌<◌, length};
-ghost use Rattle.rules.specs.Sizes.{mostTypes, distanceArea};
-ghost use Rattle.purge.specs.Stay.{neededBy, obsoleteIn, staying, Stays};
+ghost use Rattle.rules.specs.Sizes.{most_types, distance_area};
+ghost use Rattle.purge.specs.Stay.{needed_by, obsolete_in, staying, Stays};
 
 use links::link_count;
 use rules::{Kind, MOST_TYPES, Origin};
@@ -16,7 +16,7 @@ pub struct Stay {
 
 // How many links a type needs to stay. Sampled types never go.
 fn needed(kind: Kind) -> usize
-    ensures { result ≡ neededBy kind.origin }
+    ensures { result ≡ needed_by kind.origin }
 {
     let origin = kind.origin;
     match origin {
@@ -27,8 +27,8 @@ fn needed(kind: Kind) -> usize
 
 // An inferred type with at most two links is obsolete. The links of a sampled type are not counted.
 fn obsolete(area: &[u16], t: usize, kind: Kind, i: usize) -> bool
-    requires { (t ≤ mostTypes) × (i < t) × (distanceArea ≤ length area.now) }
-    ensures { result ≡ obsoleteIn area.now t kind i }
+    requires { (t ≤ most_types) × (i < t) × (distance_area ≤ length area.now) }
+    ensures { result ≡ obsolete_in area.now t kind i }
 {
     let needed = needed(kind);
     needed != 0 && link_count(area, t, i) < needed
@@ -36,7 +36,7 @@ fn obsolete(area: &[u16], t: usize, kind: Kind, i: usize) -> bool
 
 // Which of t types stay.
 pub fn survivors(area: &[u16], t: usize, kinds: [Kind; MOST_TYPES]) -> Stay
-    requires { (t ≤ mostTypes) × (distanceArea ≤ length area.now) }
+    requires { (t ≤ most_types) × (distance_area ≤ length area.now) }
     ensures { Stays (staying area.now kinds t) result }
 {
     let mut kept = [0usize; MOST_TYPES];

@@ -10,15 +10,15 @@ use lib.Dec.{eqb}
 use lib.ListN.{length, length-map}
 use borrow.Author.Tests.{eqb-true, eqb-false}
 use Rattle.rules.specs.Answers.{number, when◌refuse◌else◌, passed}
-use Rattle.rules.specs.Job.{Bytes, width, epsilon, weights, jobRows, checked}
-use Rattle.rules.specs.Lent.{Lent, areaShort}
-use Rattle.rules.specs.Types.{rows_of, sampled, tooMany, row129}
+use Rattle.rules.specs.Job.{Bytes, width, epsilon, weights, job_rows, checked}
+use Rattle.rules.specs.Lent.{Lent, area_short}
+use Rattle.rules.specs.Types.{rows_of, sampled, has_too_many, row129}
 use Rattle.rules.specs.Purge.{Run, purge}
-use Rattle.rules.specs.Run.{Outcome, settled, full, start, Network, phaseTwo, split}
-use Rattle.rules.specs.Call.{Verdict, refused, found, ◌then◌, ended, outcome, verdict, answer, answerTo}
+use Rattle.rules.specs.Run.{Outcome, settled, full, start, Network, phase_two, split}
+use Rattle.rules.specs.Call.{Verdict, refused, found, ◌then◌, ended, outcome, verdict, answer, answer_to}
 use Rattle.rules.specs.declared.Answer.{Answer}
 use Rattle.rules.specs.declared.Answer.TheVariants.{Area, Types, Room}
-use Rattle.rules.proofs.Ends.{phase-one}
+use Rattle.rules.proofs.Ends.{phase_one_is}
 use Rattle.rules.proofs.Keeps.{made-count}
 use Rattle.rules.proofs.Job.{row-widths}
 use Rattle.rules.proofs.Types.{few-sampled}
@@ -27,17 +27,17 @@ use Rattle.rules.proofs.Links.{never_split}
 use Rattle.readback.specs.Runs.{Runs}
 
 pub record Found (lent : Lent) (job : Bytes) (net : Network) : Type 0 where
-  pub areas : areaShort lent ≡ false
+  pub areas : area_short lent ≡ false
   pub checks : number (checked job) ≡ 0
-  pub few : length (sampled (jobRows job)) ≤ 128
+  pub few : length (sampled (job_rows job)) ≤ 128
   pub run : Run
   pub runs : Runs job (settled run)
-  pub left : net ≡ phaseTwo (weights job) run
+  pub left : net ≡ phase_two (weights job) run
 
 -- The links of Phase II join all kept types, so SPLIT is never given.
-pub never-split-network : (ws : List ℕ) (run : Run) → split (phaseTwo ws run) ≡ false
-unfolding phaseTwo
-never-split-network ws run =
+pub never_split-network : (ws : List ℕ) (run : Run) → split (phase_two ws run) ≡ false
+unfolding phase_two
+never_split-network ws run =
     let ts = (purge ws 0 run).current in
     ap not (rw (length-map ts (λ t. t.row)) at (never_split ws 0 (rows_of ts)))
 
@@ -57,17 +57,17 @@ unrefused true a h z = absurd (h z)
 unrefused false a h z = refl
 
 -- Phase I of a job that starts with at most 128 types.
-pub runs-outcome : (job : Bytes) → length (sampled (jobRows job)) ≤ 128 → Runs job (outcome job)
+pub runs-outcome : (job : Bytes) → length (sampled (job_rows job)) ≤ 128 → Runs job (outcome job)
 unfolding outcome
-runs-outcome job h = phase-one (weights job) (epsilon job) (start (jobRows job)) (omega (arith, made-count (start (jobRows job))))
+runs-outcome job h = phase_one_is (weights job) (epsilon job) (start (job_rows job)) (omega (arith, made-count (start (job_rows job))))
 
 pub found-is : (lent : Lent) (job : Bytes) (net : Network) → verdict lent job ≡ found net → Found lent job net
 unfolding verdict
 found-is lent job net e =
-    let a = passes_on (when areaShort lent refuse Area else passed) _ e in
+    let a = passes_on (when area_short lent refuse Area else passed) _ e in
     let b = passes_on (checked job) _ a.1 in
-    let c = passes_on (when tooMany (jobRows job) refuse Types (row129 (jobRows job)) else passed) _ b.1 in
-    let few = few-sampled (jobRows job) (unrefused _ (Types (row129 (jobRows job))) (omega arith) c.0) in
+    let c = passes_on (when has_too_many (job_rows job) refuse Types (row129 (job_rows job)) else passed) _ b.1 in
+    let few = few-sampled (job_rows job) (unrefused _ (Types (row129 (job_rows job))) (omega arith) c.0) in
     let s = settles (outcome job) (runs-outcome job few) c.1 in
     record {
       areas = unrefused _ Area (omega arith) a.0;
@@ -78,15 +78,15 @@ found-is lent job net e =
       left = s.2;
     }
   where
-    settles : (end : Outcome) → Runs job end → ended (weights job) end ≡ found net → (run : Run) × Runs job (settled run) × (net ≡ phaseTwo (weights job) run)
+    settles : (end : Outcome) → Runs job end → ended (weights job) end ≡ found net → (run : Run) × Runs job (settled run) × (net ≡ phase_two (weights job) run)
     settles (full round) r f = absurd (differ f)
     settles (settled run) r f =
-        let g : found (phaseTwo (weights job) run) ≡ found net = rw (never-split-network (weights job) run) at f in
+        let g : found (phase_two (weights job) run) ≡ found net = rw (never_split-network (weights job) run) at f in
         (run, r, cc)
 
 -- The state that Phase II leaves is sound.
-pub found-sound : {lent : Lent} {job : Bytes} {net : Network} (f : Found lent job net) → Sound (jobRows job) (width job) (purge (weights job) 0 f.run)
-found-sound {job} f = sound-purge (weights job) 0 _ _ _ (sound-settled (jobRows job) (width job) f.runs (row-widths job) f.few)
+pub found-sound : {lent : Lent} {job : Bytes} {net : Network} (f : Found lent job net) → Sound (job_rows job) (width job) (purge (weights job) 0 f.run)
+found-sound {job} f = sound-purge (weights job) 0 _ _ _ (sound-settled (job_rows job) (width job) f.runs (row-widths job) f.few)
 
 -- ── No refusal is given exactly if a network is found ──
 
@@ -94,32 +94,32 @@ found-sound {job} f = sound-purge (weights job) 0 _ _ _ (sound-settled (jobRows 
 abbrev pub Numbered : Verdict → Type 0
 Numbered v = (a : Answer) → v ≡ refused a → number a ≢ 0
 
-refuses-numbered : (a : Answer) → number a ≢ 0 → Numbered (refused a)
-refuses-numbered a n b e z = n (let f : a ≡ b = cc in ap number f ∙ z)
+refuses_numbered : (a : Answer) → number a ≢ 0 → Numbered (refused a)
+refuses_numbered a n b e z = n (let f : a ≡ b = cc in ap number f ∙ z)
 
-then-numbered : (a : Answer) (v : Verdict) → Numbered v → Numbered (a then v)
-then-numbered a v n = go (eqb (number a) 0) refl
+then_numbered : (a : Answer) (v : Verdict) → Numbered v → Numbered (a then v)
+then_numbered a v n = go (eqb (number a) 0) refl
   where
     go : (t : Bool) → eqb (number a) 0 ≡ t → Numbered (cond t v (refused a))
     go true e = n
-    go false e = refuses-numbered a (eqb-false _ _ e)
+    go false e = refuses_numbered a (eqb-false _ _ e)
 
-ended-numbered : (ws : List ℕ) (end : Outcome) → Numbered (ended ws end)
-ended-numbered ws (full round) = refuses-numbered (Room round) (omega arith)
-ended-numbered ws (settled run) = rw (never-split-network ws run) (λ a e. absurd (differ (sym e)))
+ended_numbered : (ws : List ℕ) (end : Outcome) → Numbered (ended ws end)
+ended_numbered ws (full round) = refuses_numbered (Room round) (omega arith)
+ended_numbered ws (settled run) = rw (never_split-network ws run) (λ a e. absurd (differ (sym e)))
 
-pub verdict-numbered : (lent : Lent) (job : Bytes) → Numbered (verdict lent job)
+pub verdict_numbered : (lent : Lent) (job : Bytes) → Numbered (verdict lent job)
 unfolding verdict
-verdict-numbered lent job =
-    then-numbered (when areaShort lent refuse Area else passed) _
-    (then-numbered (checked job) _
-    (then-numbered (when tooMany (jobRows job) refuse Types (row129 (jobRows job)) else passed) _
-    (ended-numbered (weights job) (outcome job))))
+verdict_numbered lent job =
+    then_numbered (when area_short lent refuse Area else passed) _
+    (then_numbered (checked job) _
+    (then_numbered (when has_too_many (job_rows job) refuse Types (row129 (job_rows job)) else passed) _
+    (ended_numbered (weights job) (outcome job))))
 
 pub answered : (lent : Lent) (job : Bytes) → (number (answer lent job) ≡ 0) ↔ ((net : Network) × (verdict lent job ≡ found net))
 unfolding answer
 answered lent job = (there (verdict lent job) refl, λ s. rw s.1)
   where
-    there : (v : Verdict) → verdict lent job ≡ v → number (answerTo (width job) v) ≡ 0 → (net : Network) × (verdict lent job ≡ found net)
-    there (refused a) e z = absurd (verdict-numbered lent job a e z)
+    there : (v : Verdict) → verdict lent job ≡ v → number (answer_to (width job) v) ≡ 0 → (net : Network) × (verdict lent job ≡ found net)
+    there (refused a) e z = absurd (verdict_numbered lent job a e z)
     there (found net) e z = (net, e)

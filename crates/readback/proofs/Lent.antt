@@ -3,7 +3,7 @@ use mathlib.Core.Path.{◌≡◌, refl}
 use mathlib.Core.Bool.{Bool, true, false, ◌||◌, true≢false}
 use Prim.Native.Nat.{◌≤◌}
 use borrow.Author.Tests.{ltb-false}
-use Rattle.rules.specs.Lent.{Lent, areaShort}
+use Rattle.rules.specs.Lent.{Lent, area_short}
 
 pub record Enough (lent : Lent) : Type 0 where
   pub result-long : 57680 ≤ lent.result
@@ -15,8 +15,8 @@ neither : (a b : Bool) → a || b ≡ false → (a ≡ false) × (b ≡ false)
 neither true b e = absurd (true≢false e)
 neither false b e = (refl, e)
 
-pub enough : (lent : Lent) → areaShort lent ≡ false → Enough lent
-unfolding areaShort
+pub enough : (lent : Lent) → area_short lent ≡ false → Enough lent
+unfolding area_short
 enough lent e =
     let (rsd, l) = neither _ _ e in
     let (rs, d) = neither _ _ rsd in

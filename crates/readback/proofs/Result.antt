@@ -8,28 +8,28 @@ use Prim.Native.Nat.{ℕ, ◌+◌, ◌*◌, ◌-◌, ◌≤◌, ◌<◌}
 use native.Mathlib.Nat.{sub-zero}
 use native.Mathlib.Omega.{arith}
 use lib.ListN.{length, get_or, replicate, length-append, length-map, length-replicate}
-use Rattle.graph.proofs.Below.{In, in-at, in-append, in-replicate, count-le, each-place}
+use Rattle.graph.proofs.Below.{In, in_at, in_append, in_replicate, count_le, each-place}
 use Rattle.rules.specs.Answers.{number, used}
-use Rattle.rules.specs.Job.{Bytes, word, width, weights, jobRows}
+use Rattle.rules.specs.Job.{Bytes, word, width, weights, job_rows}
 use Rattle.rules.specs.Lent.{Lent}
-use Rattle.rules.specs.Types.{Node, inferred, nodeAt, rows_of, sampled}
+use Rattle.rules.specs.Types.{Node, inferred, node_at, rows_of, sampled}
 use Rattle.rules.specs.Links.{link_at}
-use Rattle.rules.specs.Purge.{Run, linksOf, purge}
-use Rattle.rules.specs.Run.{Network, phaseTwo}
-use Rattle.rules.specs.Result.{blockLength, recordOf, block}
-use Rattle.rules.specs.Call.{Verdict, refused, found, verdict, answer, resultAfter}
-use Rattle.rules.specs.Lookup.{types_in, sampledTypes, headerFits, lookup}
+use Rattle.rules.specs.Purge.{Run, links_of, purge}
+use Rattle.rules.specs.Run.{Network, phase_two}
+use Rattle.rules.specs.Result.{block_length, record_of, block}
+use Rattle.rules.specs.Call.{Verdict, refused, found, verdict, answer, result_after}
+use Rattle.rules.specs.Lookup.{types_in, sampled_types, header_fits, lookup}
 use Rattle.rules.specs.declared.Answer.TheVariants.{Done}
 use Rattle.rules.proofs.Job.{Within, Passed, passed_is, state-within}
 use Rattle.rules.proofs.Distance.{distance-fits}
-use Rattle.rules.proofs.Links.{links-fit, links-at}
+use Rattle.rules.proofs.Links.{links_fit, links-at}
 use Rattle.rules.proofs.Keeps.{made-count}
 use Rattle.rules.proofs.Sound.{Sound, each_row, sound-states}
-use Rattle.rules.proofs.Block.{Fits16, Fits, Stands, stands-front, stands-length, typeCount, sampledCount, inferredRow, length-block, block-bytes}
-use Rattle.readback.specs.ReadBack.{readBack}
+use Rattle.rules.proofs.Block.{Fits16, Fits, Stands, stands_front, stands_length, type_count, sampled_count, inferred_row, length-block, block-bytes}
+use Rattle.readback.specs.ReadBack.{network_back}
 use Rattle.readback.proofs.Lent.{enough}
 use Rattle.readback.proofs.Found.{Found, found-is, found-sound}
-use Rattle.readback.proofs.ReadBack.{Writable, from-job, sampled-count, wide, block-fits, the-header, fits, row_back, read_back}
+use Rattle.readback.proofs.ReadBack.{Writable, from-job, sampled-count, wide, block-fits, the_header, fits, row_back, read_back}
 
 -- ── A job that is answered with a network ──
 
@@ -43,32 +43,32 @@ module _ (lent : Lent) (job : Bytes) (net : Network) (e : verdict lent job ≡ f
   abbrev end : Run
   end = purge (weights job) 0 f.run
 
-  abbrev sound : Sound (jobRows job) (width job) end
+  abbrev sound : Sound (job_rows job) (width job) end
   sound = found-sound f
 
   -- The network is what Phase II leaves.
-  net-is : net ≡ record { types = end.current; links = linksOf (weights job) 0 end; rounds = end.rounds }
-  unfolding phaseTwo
+  net-is : net ≡ record { types = end.current; links = links_of (weights job) 0 end; rounds = end.rounds }
+  unfolding phase_two
   net-is = f.left
 
-  types_are : net.types ≡ sampled (jobRows job) ++ sound.later
+  types_are : net.types ≡ sampled (job_rows job) ++ sound.later
   types_are = ap (λ n. n.types) net-is ∙ sound.current-is
 
-  few-types : length net.types ≤ 128
-  few-types = rw net-is (omega (arith, sound.room, made-count end))
+  few_types : length net.types ≤ 128
+  few_types = rw net-is (omega (arith, sound.room, made-count end))
 
   pub writable : Writable job net
   writable = record {
     later = sound.later;
     types_are = types_are;
-    later-inferred = λ x h. rw (sound.later-inferred x h).origin-is;
+    later-inferred = λ x h. rw (sound.later-inferred x h).origin_is;
     later-wide = λ x h. (each_row (λ r. length r ≡ width job) end.current).0 sound.widths x
-        (rw sound.current-is ((in-append x (sampled (jobRows job)) sound.later).1 (inr h)));
-    few = few-types;
+        (rw sound.current-is ((in_append x (sampled (job_rows job)) sound.later).1 (inr h)));
+    few = few_types;
   }
 
   pub few-links : length net.links ≤ 8128
-  few-links = rw net-is (links-fit (weights job) 0 (rows_of end.current) (rw length-map (rw net-is at few-types)))
+  few-links = rw net-is (links_fit (weights job) 0 (rows_of end.current) (rw length-map (rw net-is at few_types)))
 
   pub few-rounds : net.rounds ≤ 128
   few-rounds = rw net-is (omega (arith, sound.room, sound.rounds-made))
@@ -83,19 +83,19 @@ module _ (lent : Lent) (job : Bytes) (net : Network) (e : verdict lent job ≡ f
       (λ i l c b. sound-states (Within 33 126) (state-within job pass) sound i c l b) t (rw net-is at h)
 
   -- The numbers of a type's record: its row count and first row, or its place among the inferred ones and its round.
-  record-numbers : (t : Node) → In t net.types → (index : ℕ) → index < 65536 → Fits16 (recordOf t.origin index)
-  record-numbers t h index l = ⊎_elim of-job of-round ((in-append t (sampled (jobRows job)) sound.later).0 (rw types_are at h))
+  record_numbers_fit : (t : Node) → In t net.types → (index : ℕ) → index < 65536 → Fits16 (record_of t.origin index)
+  record_numbers_fit t h index l = ⊎_elim of_job of_round ((in_append t (sampled (job_rows job)) sound.later).0 (rw types_are at h))
     where
-      of-job : In t (sampled (jobRows job)) → Fits16 (recordOf t.origin index)
-      of-job g =
+      of_job : In t (sampled (job_rows job)) → Fits16 (record_of t.origin index)
+      of_job g =
           let j = from-job job t g in
           let r = pass.rows-within.at_most in
-          rw j.origin-is (omega (arith, j.count_most), (omega (arith, j.first-row), (omega arith, tt)))
+          rw j.origin_is (omega (arith, j.count_most), (omega (arith, j.first-row), (omega arith, tt)))
 
-      of-round : In t sound.later → Fits16 (recordOf t.origin index)
-      of-round g =
+      of_round : In t sound.later → Fits16 (record_of t.origin index)
+      of_round g =
           let r = sound.later-inferred t g in
-          rw r.origin-is (omega arith, (l, (omega (arith, r.not-later, sound.room, sound.rounds-made), tt)))
+          rw r.origin_is (omega arith, (l, (omega (arith, r.not_later, sound.room, sound.rounds-made), tt)))
 
   -- A link's lower number, its higher number and its length.
   the_link : (k : ℕ) → k < length net.links →
@@ -108,23 +108,23 @@ module _ (lent : Lent) (job : Bytes) (net : Network) (e : verdict lent job ≡ f
   pub numbers_fit : Fits (width job) net
   numbers_fit = record {
     header-fits =
-        let t : sampledCount net ≤ length net.types = count-le (length net.types) (λ k. not (inferred (nodeAt net.types k).origin)) in
+        let t : sampled_count net ≤ length net.types = count_le (length net.types) (λ k. not (inferred (node_at net.types k).origin)) in
         let m = pass.width-within.at_most in
-        let b : blockLength (typeCount net) (sampledCount net) (width job) (length net.links) ≤ 57680 = rw (length-block (width job) net (wide job net writable)) at block-short in
-        let n = few-types in
+        let b : block_length (type_count net) (sampled_count net) (width job) (length net.links) ≤ 57680 = rw (length-block (width job) net (wide job net writable)) at block-short in
+        let n = few_types in
         (omega arith, (omega arith, (omega arith, (omega arith, (omega (arith, few-rounds), (omega arith, (omega arith, (omega arith, tt))))))));
-    record-fits = λ k h. record-numbers (nodeAt net.types k) (in-at net.types k _ h) (k - sampledCount net) (omega (arith, few-types));
-    states-fit = states;
+    record_fits = λ k h. record_numbers_fit (node_at net.types k) (in_at net.types k _ h) (k - sampled_count net) (omega (arith, few_types));
+    states_fit = states;
     link_fits = λ k h.
         let l = the_link k h in
-        let n = few-types in
+        let n = few_types in
         (omega (arith, l.0, l.1), (omega (arith, l.1), (omega (arith, l.2), tt)));
   }
     where
-      states : (i : ℕ) → i < typeCount net - sampledCount net → (x : ℕ) → In x (inferredRow net i) → x < 256
+      states : (i : ℕ) → i < type_count net - sampled_count net → (x : ℕ) → In x (inferred_row net i) → x < 256
       states i h =
-          let t = nodeAt net.types (sampledCount net + i) in
-          let b = type-states t (in-at net.types (sampledCount net + i) _ (omega arith)) in
+          let t = node_at net.types (sampled_count net + i) in
+          let b = type-states t (in_at net.types (sampled_count net + i) _ (omega arith)) in
           (each-place (λ x. x < 256) t.row 0).0 (λ c l. omega (arith, (b c (rw (wide job net writable i h) at l)).at_most))
 
   -- ── What the result then holds ──
@@ -132,38 +132,38 @@ module _ (lent : Lent) (job : Bytes) (net : Network) (e : verdict lent job ≡ f
   abbrev behind : Bytes
   behind = replicate (lent.result - length (block (width job) net)) 0
 
-  result-is : resultAfter lent job ≡ block (width job) net ++ behind
-  unfolding resultAfter
-  result-is = rw e
+  result_is : result_after lent job ≡ block (width job) net ++ behind
+  unfolding result_after
+  result_is = rw e
 
-  pub read_result : readBack job (resultAfter lent job) ≡ net
-  read_result = rw result-is (read_back job net behind f.checks writable)
+  pub read_result : network_back job (result_after lent job) ≡ net
+  read_result = rw result_is (read_back job net behind f.checks writable)
 
-  pub rows-read : (k : ℕ) → k < length net.types → lookup job (resultAfter lent job) k ≡ (nodeAt net.types k).row
-  rows-read k h = rw result-is (row_back job net writable f.checks _ (stands-front (block (width job) net) behind) k h)
+  pub rows-read : (k : ℕ) → k < length net.types → lookup job (result_after lent job) k ≡ (node_at net.types k).row
+  rows-read k h = rw result_is (row_back job net writable f.checks _ (stands_front (block (width job) net) behind) k h)
 
   -- What the header of the result says: it is one of the job's width, and of the links that follow it.
-  in-front : Stands (resultAfter lent job) 0 (block (width job) net)
-  in-front = rw result-is (stands-front (block (width job) net) behind)
+  in_front : Stands (result_after lent job) 0 (block (width job) net)
+  in_front = rw result_is (stands_front (block (width job) net) behind)
 
-  pub header-matches : headerFits (width job) (resultAfter lent job) (types_in (resultAfter lent job)) (sampledTypes (resultAfter lent job)) ≡ true
-  header-matches = fits job net writable f.checks (resultAfter lent job) in-front
+  pub header-matches : header_fits (width job) (result_after lent job) (types_in (result_after lent job)) (sampled_types (result_after lent job)) ≡ true
+  header-matches = fits job net writable f.checks (result_after lent job) in_front
 
-  pub links-counted : word (resultAfter lent job) 6 ≡ length net.links
-  links-counted = the-header job net writable f.checks (resultAfter lent job) in-front 3 (omega arith)
+  pub links-counted : word (result_after lent job) 6 ≡ length net.links
+  links-counted = the_header job net writable f.checks (result_after lent job) in_front 3 (omega arith)
 
-  pub links-reach : word (resultAfter lent job) 14 + 6 * word (resultAfter lent job) 6 ≤ length (resultAfter lent job)
+  pub links-reach : word (result_after lent job) 14 + 6 * word (result_after lent job) 6 ≤ length (result_after lent job)
   links-reach =
-      let at = the-header job net writable f.checks (resultAfter lent job) in-front 7 (omega arith) in
-      omega (arith, at, links-counted, stands-length in-front, length-block (width job) net (wide job net writable))
+      let at = the_header job net writable f.checks (result_after lent job) in_front 7 (omega arith) in
+      omega (arith, at, links-counted, stands_length in_front, length-block (width job) net (wide job net writable))
 
-  answer-is : answer lent job ≡ Done (length (block (width job) net))
+  answer_is : answer lent job ≡ Done (length (block (width job) net))
   unfolding answer
-  answer-is = rw e
+  answer_is = rw e
 
   -- The bytes used, as RULES 13.6 counts them.
-  pub used-is : used (answer lent job) ≡ blockLength (length net.types) (length (sampled (jobRows job))) (width job) (length net.links)
-  used-is = rw (answer-is, ← sampled-count job net writable) (length-block (width job) net (wide job net writable))
+  pub used_is : used (answer lent job) ≡ block_length (length net.types) (length (sampled (job_rows job))) (width job) (length net.links)
+  used_is = rw (answer_is, ← sampled-count job net writable) (length-block (width job) net (wide job net writable))
 
   -- The result lent is long enough for every block.
   long-enough : 57680 ≤ lent.result
@@ -173,32 +173,32 @@ module _ (lent : Lent) (job : Bytes) (net : Network) (e : verdict lent job ≡ f
 
 module _ (lent : Lent) (job : Bytes) where
   -- A network is found, or nothing is written.
-  found-or-zero : ((net : Network) × (verdict lent job ≡ found net)) ⊎ (resultAfter lent job ≡ replicate lent.result 0)
-  unfolding resultAfter
-  found-or-zero = go (verdict lent job) refl
+  found-or_zero : ((net : Network) × (verdict lent job ≡ found net)) ⊎ (result_after lent job ≡ replicate lent.result 0)
+  unfolding result_after
+  found-or_zero = go (verdict lent job) refl
     where
-      go : (v : Verdict) → verdict lent job ≡ v → ((net : Network) × (verdict lent job ≡ found net)) ⊎ (resultAfter lent job ≡ replicate lent.result 0)
+      go : (v : Verdict) → verdict lent job ≡ v → ((net : Network) × (verdict lent job ≡ found net)) ⊎ (result_after lent job ≡ replicate lent.result 0)
       go (refused a) e = inr (rw (e, sub-zero))
       go (found net) e = inl (net, e)
 
-  pub result-length : length (resultAfter lent job) ≡ lent.result
-  result-length =
+  pub result_length : length (result_after lent job) ≡ lent.result
+  result_length =
       ⊎_elim
       (λ s. let (net, e) = s in
-      rw (result-is lent job net e, length-append, length-replicate) (omega (arith, block-short lent job net e, long-enough lent job net e)))
-      (λ z. ap length z ∙ length-replicate lent.result 0) found-or-zero
+      rw (result_is lent job net e, length-append, length-replicate) (omega (arith, block-short lent job net e, long-enough lent job net e)))
+      (λ z. ap length z ∙ length-replicate lent.result 0) found-or_zero
 
-  pub result-bytes : (x : ℕ) → In x (resultAfter lent job) → x < 256
+  pub result-bytes : (x : ℕ) → In x (result_after lent job) → x < 256
   result-bytes x h =
       ⊎_elim
       (λ s. let (net, e) = s in
       let b = block (width job) net in
       ⊎_elim (block-bytes (width job) net (numbers_fit lent job net e) x) (zeros (lent.result - length b))
-      ((in-append x b _).0 (rw (result-is lent job net e) at h)))
-      (λ z. zeros lent.result (rw z at h)) found-or-zero
+      ((in_append x b _).0 (rw (result_is lent job net e) at h)))
+      (λ z. zeros lent.result (rw z at h)) found-or_zero
     where
       zeros : (n : ℕ) → In x (replicate n 0) → x < 256
-      zeros n g = omega (arith, in-replicate x 0 n g)
+      zeros n g = omega (arith, in_replicate x 0 n g)
 
-  pub refused-zero : number (answer lent job) ≢ 0 → resultAfter lent job ≡ replicate lent.result 0
-  refused-zero n = ⊎_elim (λ s. absurd (n (rw (answer-is lent job s.0 s.1)))) (λ z. z) found-or-zero
+  pub refused_zero : number (answer lent job) ≢ 0 → result_after lent job ≡ replicate lent.result 0
+  refused_zero n = ⊎_elim (λ s. absurd (n (rw (answer_is lent job s.0 s.1)))) (λ z. z) found-or_zero

@@ -1,7 +1,7 @@
 -- The result block read back by its own header: whoever holds job and result block holds the network.
 use Rattle.std.specs.Prelude.{cond, ℕ, ◌+◌, ◌*◌, ltb}
 use Rattle.graph.specs.Below.{table}
-use Rattle.rules.specs.Result.{recordSize, link_size}
+use Rattle.rules.specs.Result.{record_size, link_size}
 use Rattle.rules.specs.Job.{Bytes, word}
 use Rattle.rules.specs.Types.{Node}
 use Rattle.rules.specs.Run.{Network}
@@ -11,27 +11,27 @@ use Rattle.rules.specs.declared.Origin.{Origin}
 use Rattle.rules.specs.declared.Origin.TheVariants.{Sampled, Inferred}
 
 -- The header says where records and links begin; a record has three numbers, and so has a link.
-abbrev pub recordAt : Bytes → ℕ → ℕ
-recordAt block k = word block 10 + recordSize * k
+abbrev pub record_at : Bytes → ℕ → ℕ
+record_at block k = word block 10 + record_size * k
 
-abbrev pub readOrigin : Bytes → ℕ → Origin
-readOrigin block k =
-    cond (ltb k (word block 2)) (Sampled (word block (recordAt block k)) (word block (recordAt block k + 2)))
-    (Inferred (word block (recordAt block k + 4)))
+abbrev pub read_origin : Bytes → ℕ → Origin
+read_origin block k =
+    cond (ltb k (word block 2)) (Sampled (word block (record_at block k)) (word block (record_at block k + 2)))
+    (Inferred (word block (record_at block k + 4)))
 
-abbrev pub readLink : Bytes → ℕ → Link
-readLink block k =
+abbrev pub read_link : Bytes → ℕ → Link
+read_link block k =
     let at = word block 14 + link_size * k in
     record { low = word block at; high = word block (at + 2); length = word block (at + 4) }
 
 -- A type's states are what the row lookup hands back.
-abbrev pub readType : Bytes → Bytes → ℕ → Node
-readType job block k = record { row = lookup job block k; origin = readOrigin block k }
+abbrev pub read_type : Bytes → Bytes → ℕ → Node
+read_type job block k = record { row = lookup job block k; origin = read_origin block k }
 
-unfoldable pub readBack : Bytes → Bytes → Network
-readBack job block =
+unfoldable pub network_back : Bytes → Bytes → Network
+network_back job block =
     record {
-      types = table (word block 0) (readType job block);
-      links = table (word block 6) (readLink block);
+      types = table (word block 0) (read_type job block);
+      links = table (word block 6) (read_link block);
       rounds = word block 8;
     }

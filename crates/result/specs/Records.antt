@@ -3,7 +3,7 @@ use Rattle.std.specs.Prelude.{not, List, ℕ, ◌+◌, ◌-◌, ◌≤◌, ◌<�
 use Rattle.graph.specs.Below.{gather, count}
 use Rattle.rules.specs.Job.{Bytes}
 use Rattle.rules.specs.Types.{inferred}
-use Rattle.rules.specs.Result.{words, recordOf}
+use Rattle.rules.specs.Result.{words, record_of}
 use Rattle.rules.specs.declared.Kind.{Kind}
 use Rattle.rules.specs.declared.Origin.{Origin}
 use Rattle.rules.specs.declared.Origin.TheVariants.{Sampled, Inferred}
@@ -21,13 +21,13 @@ abbrev pub OriginsFit : List Kind → ℕ → Type 0
 OriginsFit kinds t = (k : ℕ) → k < t → OriginFits (kind_at kinds k).origin
 
 -- How many of t types are sampled.
-abbrev pub sampledOf : List Kind → ℕ → ℕ
-sampledOf kinds t = count t (λ k. not (inferred (kind_at kinds k).origin))
+abbrev pub sampled_of : List Kind → ℕ → ℕ
+sampled_of kinds t = count t (λ k. not (inferred (kind_at kinds k).origin))
 
 -- The records of t types, s of them sampled.
-unfoldable pub recordsOf : List Kind → ℕ → ℕ → Bytes
-recordsOf kinds t s = gather t (λ k. words (recordOf (kind_at kinds k).origin (k - s)))
+unfoldable pub records_of : List Kind → ℕ → ℕ → Bytes
+records_of kinds t s = gather t (λ k. words (record_of (kind_at kinds k).origin (k - s)))
 
 -- So many rows of width m, from type s on.
-unfoldable pub inferredRows : ℕ → Bytes → ℕ → ℕ → Bytes
-inferredRows m states s n = gather n (λ i. row_in m states (s + i))
+unfoldable pub inferred_rows : ℕ → Bytes → ℕ → ℕ → Bytes
+inferred_rows m states s n = gather n (λ i. row_in m states (s + i))

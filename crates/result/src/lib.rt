@@ -7,8 +7,8 @@ pub mod records;
 pub mod table;
 
 ghost use Rattle.std.specs.Prelude.{◌≡◌, ◌≤◌, length};
-ghost use Rattle.rules.specs.Sizes.{mostWidth, mostTypes};
-ghost use Rattle.rules.specs.Result.{words, header, recordsOffset};
+ghost use Rattle.rules.specs.Sizes.{most_width, most_types};
+ghost use Rattle.rules.specs.Result.{words, header, records_offset};
 ghost use Rattle.memory.specs.Placed.{placed};
 ghost use Rattle.result.specs.FrontWritten.{Writable, FrontWritten};
 
@@ -27,7 +27,7 @@ pub struct Front {
 
 // The header: types, sampled, width, links, rounds, and the three offsets.
 fn put_header(m: usize, t: usize, s: usize, l: usize, rounds: usize, out: &mut [u8])
-    requires { (m ≤ mostWidth) × (t ≤ mostTypes) × (s ≤ t) × (l ≤ 65535) × (rounds ≤ 65535) × (recordsOffset ≤ length out.old) }
+    requires { (m ≤ most_width) × (t ≤ most_types) × (s ≤ t) × (l ≤ 65535) × (rounds ≤ 65535) × (records_offset ≤ length out.old) }
     ensures { out.new ≡ placed out.old 0 (words (header t s m l rounds)) }
 {
     let rows = RECORDS_OFFSET + RECORD_SIZE * t;

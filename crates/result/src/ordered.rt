@@ -2,9 +2,9 @@
 // reads the marks and distances of the distance area and writes nothing.
 
 ghost use Rattle.std.specs.Prelude.{◌≡◌, ◌≤◌, ◌<◌, length};
-ghost use Rattle.rules.specs.Sizes.{mostTypes, distanceArea};
-ghost use Rattle.purge.specs.Network.{linksIn};
-ghost use Rattle.result.specs.Lines.{line_of, linksBefore, Reached};
+ghost use Rattle.rules.specs.Sizes.{most_types, distance_area};
+ghost use Rattle.purge.specs.Network.{links_in};
+ghost use Rattle.result.specs.Lines.{line_of, links_before, Reached};
 ghost use Rattle.result.specs.Order.{HasNext, Next};
 
 use links::linked;
@@ -12,7 +12,7 @@ use rules::{LINE, Link};
 
 // How many types above type i, of t types, are linked with it.
 fn count_line(area: &[u16], t: usize, i: usize) -> usize
-    requires { (distanceArea ≤ length area.now) × (t ≤ mostTypes) × (i < t) }
+    requires { (distance_area ≤ length area.now) × (t ≤ most_types) × (i < t) }
     ensures { result ≡ length (line_of area.now t i) }
 {
     let mut n = 0;
@@ -28,8 +28,8 @@ fn count_line(area: &[u16], t: usize, i: usize) -> usize
 
 // How many links t types have.
 pub fn count_links(area: &[u16], t: usize) -> usize
-    requires { (distanceArea ≤ length area.now) × (t ≤ mostTypes) }
-    ensures { result ≡ length (linksIn t area.now) }
+    requires { (distance_area ≤ length area.now) × (t ≤ most_types) }
+    ensures { result ≡ length (links_in t area.now) }
 {
     let mut n = 0;
     let mut i = 0;
@@ -42,8 +42,8 @@ pub fn count_links(area: &[u16], t: usize) -> usize
 
 // The first of t types, from one on, that is linked with type i; t if there is none.
 fn next_in_line(area: &[u16], t: usize, i: usize, from: usize) -> usize
-    requires { (distanceArea ≤ length area.now) × (t ≤ mostTypes) × (i < from) × (from ≤ t) }
-    ensures { Reached area.now t (linksBefore area.now t i from) i result }
+    requires { (distance_area ≤ length area.now) × (t ≤ most_types) × (i < from) × (from ≤ t) }
+    ensures { Reached area.now t (links_before area.now t i from) i result }
 {
     let mut j = from;
     while j < t {
@@ -57,8 +57,8 @@ fn next_in_line(area: &[u16], t: usize, i: usize, from: usize) -> usize
 
 // The link that comes next behind a link, or the first one behind none.
 pub fn next_link(area: &[u16], t: usize, last: Link) -> Link
-    requires { (distanceArea ≤ length area.now) × (t ≤ mostTypes) × HasNext (linksIn t area.now) last }
-    ensures { Next (linksIn t area.now) last result }
+    requires { (distance_area ≤ length area.now) × (t ≤ most_types) × HasNext (links_in t area.now) last }
+    ensures { Next (links_in t area.now) last result }
 {
     let mut i = last.low as usize;
     let mut j = next_in_line(area, t, i, last.high as usize + 1);

@@ -2,18 +2,18 @@
 // the state area, and writes a part of the memory that it is lent.
 
 ghost use Rattle.std.specs.Prelude.{◌≡◌, [], ◌∷◌, ◌+◌, ◌*◌, ◌-◌, ◌≤◌, length};
-ghost use Rattle.rules.specs.Sizes.{mostWidth, mostTypes, stateArea};
-ghost use Rattle.rules.specs.Result.{words, recordOf, recordSize};
+ghost use Rattle.rules.specs.Sizes.{most_width, most_types, state_area};
+ghost use Rattle.rules.specs.Result.{words, record_of, record_size};
 ghost use Rattle.memory.specs.Placed.{placed};
-ghost use Rattle.result.specs.Records.{OriginFits, OriginsFit, sampledOf, recordsOf, inferredRows};
+ghost use Rattle.result.specs.Records.{OriginFits, OriginsFit, sampled_of, records_of, inferred_rows};
 
 use memory::{copy, put_three};
 use rules::{Kind, MOST_TYPES, Origin, RECORD_SIZE, ROW};
 
 // The record of a type: rows, place, round.
 fn put_record(kind: Kind, index: usize, out: &mut [u8], at: usize)
-    requires { OriginFits kind.origin × (index ≤ 65535) × (at + recordSize ≤ length out.old) }
-    ensures { out.new ≡ placed out.old at (words (recordOf kind.origin index)) }
+    requires { OriginFits kind.origin × (index ≤ 65535) × (at + record_size ≤ length out.old) }
+    ensures { out.new ≡ placed out.old at (words (record_of kind.origin index)) }
 {
     let origin = kind.origin;
     match origin {
@@ -24,8 +24,8 @@ fn put_record(kind: Kind, index: usize, out: &mut [u8], at: usize)
 
 // How many of t types are sampled.
 pub fn sampled(t: usize, kinds: [Kind; MOST_TYPES]) -> usize
-    requires { t ≤ mostTypes }
-    ensures { (result ≡ sampledOf kinds t) × (result ≤ t) }
+    requires { t ≤ most_types }
+    ensures { (result ≡ sampled_of kinds t) × (result ≤ t) }
 {
     let mut sampled = 0;
     let mut k = 0;
@@ -42,8 +42,8 @@ pub fn sampled(t: usize, kinds: [Kind; MOST_TYPES]) -> usize
 
 // The records of t types, s of them sampled.
 pub fn put_records(t: usize, s: usize, kinds: [Kind; MOST_TYPES], out: &mut [u8], at: usize)
-    requires { (t ≤ mostTypes) × OriginsFit kinds t × (at + recordSize * t ≤ length out.old) }
-    ensures { out.new ≡ placed out.old at (recordsOf kinds t s) }
+    requires { (t ≤ most_types) × OriginsFit kinds t × (at + record_size * t ≤ length out.old) }
+    ensures { out.new ≡ placed out.old at (records_of kinds t s) }
 {
     let mut k = 0;
     while k < t {
@@ -55,8 +55,8 @@ pub fn put_records(t: usize, s: usize, kinds: [Kind; MOST_TYPES], out: &mut [u8]
 
 // The rows of the types behind the sampled ones.
 pub fn put_inferred_rows(states: &[u8], m: usize, t: usize, s: usize, out: &mut [u8], at: usize)
-    requires { (stateArea ≤ length states.now) × (m ≤ mostWidth) × (t ≤ mostTypes) × (s ≤ t) × (at + (t - s) * m ≤ length out.old) }
-    ensures { out.new ≡ placed out.old at (inferredRows m states.now s (t - s)) }
+    requires { (state_area ≤ length states.now) × (m ≤ most_width) × (t ≤ most_types) × (s ≤ t) × (at + (t - s) * m ≤ length out.old) }
+    ensures { out.new ≡ placed out.old at (inferred_rows m states.now s (t - s)) }
 {
     let mut k = s;
     while k < t {

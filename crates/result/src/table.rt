@@ -5,9 +5,9 @@
 ghost use Rattle.std.specs.Prelude.{◌≡◌, ◌+◌, ◌*◌, ◌≤◌, length, replicate};
 ghost use Rattle.rules.specs.Result.{link_size};
 ghost use Rattle.memory.specs.Placed.{placed};
-ghost use Rattle.purge.specs.Network.{linksIn};
+ghost use Rattle.purge.specs.Network.{links_in};
 ghost use Rattle.result.specs.Order.{no_link};
-ghost use Rattle.result.specs.Table.{Listable, linkBytes, tableBytes};
+ghost use Rattle.result.specs.Table.{Listable, link_bytes, table_bytes};
 
 use crate::ordered::next_link;
 use memory::put_three;
@@ -16,7 +16,7 @@ use rules::{LINK_SIZE, Link};
 // The n links of t types are listed, each behind the one before.
 pub fn list_links(area: &[u16], t: usize, n: usize, links: &mut [Link])
     requires { Listable area.now t n links.old }
-    ensures { links.new ≡ placed links.old 0 (linksIn t area.now) }
+    ensures { links.new ≡ placed links.old 0 (links_in t area.now) }
 {
     let mut last = Link {
         low: 0,
@@ -34,7 +34,7 @@ pub fn list_links(area: &[u16], t: usize, n: usize, links: &mut [Link])
 // The bytes of link k, behind those of the links before it, which begin at a place.
 fn put_link(link: Link, out: &mut [u8], at: usize, k: usize)
     requires { at + link_size * k + link_size ≤ length out.old }
-    ensures { out.new ≡ placed out.old (at + link_size * k) (linkBytes link) }
+    ensures { out.new ≡ placed out.old (at + link_size * k) (link_bytes link) }
 {
     put_three(
         out,
@@ -48,7 +48,7 @@ fn put_link(link: Link, out: &mut [u8], at: usize, k: usize)
 // The bytes of the first n links of the table, at a place of the result.
 pub fn put_links(links: &[Link], n: usize, out: &mut [u8], at: usize)
     requires { (n ≤ length links.now) × (at + link_size * n ≤ length out.old) }
-    ensures { out.new ≡ placed out.old at (tableBytes n links.now) }
+    ensures { out.new ≡ placed out.old at (table_bytes n links.now) }
 {
     let mut k = 0;
     while k < n {

@@ -16,7 +16,7 @@ use Rattle.rules.specs.Purge.{Run}
 use Rattle.rules.specs.Round.{offers}
 use Rattle.rules.specs.Run.{fresh}
 use Rattle.rules.specs.Call.{padded}
-use Rattle.rules.proofs.Rounds.{AscendingRows, added-ascends, ascending-same, added-offered, added_none, added-some, offer-width}
+use Rattle.rules.proofs.Rounds.{AscendingRows, added-ascends, ascending-same, added_offered, added_none, added-some, offer_width}
 use Rattle.rules.proofs.Window.{ascending-few, in_window, stored-ascends}
 use Rattle.types.specs.State.{stored, laid}
 use Rattle.links.specs.Marks.{TellsLinks}
@@ -26,7 +26,7 @@ use Rattle.round.specs.Fresh.{InWindow, All, Fresh}
 use Rattle.round.specs.declared.candidates.Added.{Added}
 use Rattle.round.specs.Rounded.{Carries, Crowded}
 use Rattle.round.proofs.Faithful.{current-wide, faithful}
-use Rattle.round.proofs.Offers.{candidate-offer, offer-candidate}
+use Rattle.round.proofs.Offers.{candidate_offer, offer_candidate}
 
 not-empty : {A : Type 0} (x : A) (xs : List A) → In x xs → xs ≢ []
 not-empty x xs h none = rw none at h
@@ -36,8 +36,8 @@ module _ {weights : List ℕ} {m : ℕ} {ws : List ℕ} {run : Run} {states : By
   -- Fresh rows are as wide as the others, and ascend as they are stored.
   pub fresh-wide : (x : Row) → In x (fresh ws e run) → length x ≡ m
   fresh-wide x h =
-      let (o, i, f) = added-offered e (offers ws e run) x h in
-      rw (← f) (offer-width ws e run m (current-wide carries few) o i)
+      let (o, i, f) = added_offered e (offers ws e run) x h in
+      rw (← f) (offer_width ws e run m (current-wide carries few) o i)
 
   fresh-ascends : AscendingRows (map stored (fresh ws e run))
   fresh-ascends = stored-ascends 64 m (fresh ws e run) fresh-wide (added-ascends e (offers ws e run))
@@ -50,7 +50,7 @@ module _ {weights : List ℕ} {m : ℕ} {ws : List ℕ} {run : Run} {states : By
   window : (x : Bytes) → InWindow weights states area held.state.types held.state.made e x ↔ In x (map stored (fresh ws e run))
   window x = (
     λ w.
-        let (o, i, f, c) = candidate-offer carries few tells x w.cost w.candidate in
+        let (o, i, f, c) = candidate_offer carries few tells x w.cost w.candidate in
         let ne = not-empty o (offers ws e run) i in
         (in_map x stored (fresh ws e run)).1 (
           o.row,
@@ -58,20 +58,20 @@ module _ {weights : List ℕ} {m : ℕ} {ws : List ℕ} {run : Run} {states : By
             o,
             i,
             refl,
-            λ p j. rw c (w.cheap (stored p.row) p.cost (offer-candidate carries few tells p j)),
+            λ p j. rw c (w.cheap (stored p.row) p.cost (offer_candidate carries few tells p j)),
           ),
           sym f,
         ),
     λ h.
         let (y, i, f) = (in_map x stored (fresh ws e run)).0 h in
-        let (q, k, g) = added-offered e (offers ws e run) y i in
+        let (q, k, g) = added_offered e (offers ws e run) y i in
         let ne = not-empty q (offers ws e run) k in
         let (o, j, d, c) = (in_window e (offers ws e run) ne y).0 i in
         record {
           cost = o.cost;
           candidate = subst (λ (z : Bytes). Candidate weights states area held.state.types held.state.made z o.cost) (ap stored d ∙ sym f)
-              (offer-candidate carries few tells o j);
-          cheap = λ z other s. let (p, l, b, a) = candidate-offer carries few tells z other s in rw (← a) (c p l);
+              (offer_candidate carries few tells o j);
+          cheap = λ z other s. let (p, l, b, a) = candidate_offer carries few tells z other s in rw (← a) (c p l);
         },
   )
 
@@ -84,7 +84,7 @@ module _ {weights : List ℕ} {m : ℕ} {ws : List ℕ} {run : Run} {states : By
       pub fresh-count : r.count ≡ length (fresh ws e run)
       fresh-count =
           let a = found.all (faithful carries few) room in
-          a.count-is ∙ rw (fresh-rows a) (length-map (fresh ws e run) stored)
+          a.count_is ∙ rw (fresh-rows a) (length-map (fresh ws e run) stored)
 
       pub fresh-laid : r.rows ≡ padded 8192 (laid (map stored (fresh ws e run)))
       fresh-laid =
@@ -92,14 +92,14 @@ module _ {weights : List ℕ} {m : ℕ} {ws : List ℕ} {run : Run} {states : By
           a.rows_are ∙ rw (fresh-rows a)
 
       -- None where there is no offer, and else some.
-      pub no-offer : r.count ≡ 0 → offers ws e run ≡ []
-      no-offer z = elim (ℕ_discrete (length (offers ws e run)) 0) [
+      pub no_offer : r.count ≡ 0 → offers ws e run ≡ []
+      no_offer z = elim (ℕ_discrete (length (offers ws e run)) 0) [
         | yes h ↦ (empty (offers ws e run)).0 h
         | no f ↦ absurd (added-some e (offers ws e run) (λ none. f ((empty _).1 none)) ((empty (fresh ws e run)).0 (sym fresh-count ∙ z)))
       ]
 
-      pub some-offer : 0 < r.count → offers ws e run ≢ []
-      some-offer h none = omega (arith, fresh-count, fresh-none none)
+      pub some_offer : 0 < r.count → offers ws e run ≢ []
+      some_offer h none = omega (arith, fresh-count, fresh-none none)
 
     -- More were found than there is room for.
     pub crowded : r.full ≡ true → Crowded ws e run
@@ -107,5 +107,5 @@ module _ {weights : List ℕ} {m : ℕ} {ws : List ℕ} {run : Run} {states : By
         let t = found.too_many (faithful carries few) full in
         let more = ascending-few t.xs (map stored (fresh ws e run)) t.ascends fresh-ascends (λ x h. (window x).0 (t.each x h)) in
         let n = length-map (fresh ws e run) stored in
-        let all = carries.holds.made-are in
+        let all = carries.holds.made_are in
         record { some = λ none. omega (arith, t.no_room, fresh-none none); no_room = omega (arith, t.no_room) }

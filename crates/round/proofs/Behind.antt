@@ -7,9 +7,9 @@ use lib.ListN.{length, take, drop, replicate, length-append, length-drop, length
 use lib.Seq.{length-take-le, take_at}
 use Rattle.rules.specs.Job.{Bytes, Row}
 use Rattle.rules.specs.Call.{padded}
-use Rattle.rules.proofs.Block.{stands-part}
+use Rattle.rules.proofs.Block.{stands_part}
 use Rattle.memory.specs.Placed.{placed}
-use Rattle.memory.proofs.Placed.{stands-placed, placed-over, placed-twice, length-placed, placed-padded}
+use Rattle.memory.proofs.Placed.{stands_placed, placed_over, placed-twice, length-placed, placed-padded}
 use Rattle.types.specs.State.{stored, laid, rows_from}
 use Rattle.types.proofs.State.{OfWidth, length-stored, length-laid, laid-append, laid_both}
 
@@ -40,16 +40,16 @@ module _ (b xs zs area : Bytes) (n : ℕ) (size : length xs ≡ n) (room : n + l
   twice : (ys : Bytes) → placed (placed b 0 xs) n ys ≡ placed b 0 (xs ++ ys)
   twice ys = placed-twice b xs 0 (omega arith) n ys (omega arith)
 
-  base-size : length (placed b 0 xs) ≡ length b
-  base-size = length-placed b xs 0 (omega arith)
+  base_size : length (placed b 0 xs) ≡ length b
+  base_size = length-placed b xs 0 (omega arith)
 
-  rear-is : take (length zs) (drop n area) ≡ zs
-  rear-is = rw (is, ← twice zs) (stands-part (stands-placed (placed b 0 xs) zs n (omega (arith, base-size))))
+  rear_is : take (length zs) (drop n area) ≡ zs
+  rear_is = rw (is, ← twice zs) (stands_part (stands_placed (placed b 0 xs) zs n (omega (arith, base_size))))
 
   put-between : (ys : Bytes) → placed area n (ys ++ zs) ≡ placed b 0 (xs ++ (ys ++ zs))
   put-between ys =
       rw (is, ← twice zs)
-      (placed-over (placed b 0 xs) zs n (omega (arith, base-size)) (ys ++ zs) (omega (arith, length-append ys zs)) ∙ twice (ys ++ zs))
+      (placed_over (placed b 0 xs) zs n (omega (arith, base_size)) (ys ++ zs) (omega (arith, length-append ys zs)) ∙ twice (ys ++ zs))
 
 -- Rows as they are stored are stored as the rows are.
 stored-twice : (r : Row) → length r ≤ 64 → stored (stored r) ≡ stored r
@@ -78,7 +78,7 @@ rows-between m cs xs ds small wc wx wd N count t made room nc nx nd states rows 
     let size : length (laid cs) ≡ 64 * t = omega arith in
     let fits : 64 * t + length (laid ds) ≤ length zeros = omega arith in
     let k : length ds ≡ made - t = omega arith in
-    let behind : rows_from states t made ≡ laid ds = rw (ld, k) at (rear-is zeros (laid cs) (laid ds) states (64 * t) size fits is) in
+    let behind : rows_from states t made ≡ laid ds = rw (ld, k) at (rear_is zeros (laid cs) (laid ds) states (64 * t) size fits is) in
     let front : take (64 * count) rows ≡ laid xs = rw (er, laid-stored m xs small wx) (take_at (laid xs) _ (64 * count) (omega arith)) in
     rw (behind, front, laid_both, laid_both)
     (put-between zeros (laid cs) (laid ds) states (64 * t) size fits is (laid xs) ∙ placed-padded N _)

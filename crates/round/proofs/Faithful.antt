@@ -36,11 +36,11 @@ module _ {weights : List ℕ} {m : ℕ} {ws : List ℕ} {run : Run} {states : By
 
   -- The rows stored are the rows made, the current ones in front.
   pub stored_row : (i : ℕ) → i < length (made run) → stored_at states i ≡ stored (row_at (made run) i)
-  stored_row = lies_made m run carries.holds.narrow carries.holds.wide states (length states) carries.holds.states-are
+  stored_row = lies_made m run carries.holds.narrow carries.holds.wide states (length states) carries.holds.states_are
 
   pub stored-current : (i : ℕ) → i < held.state.types → stored_at states i ≡ stored (row_at (rows_of run.current) i)
   stored-current i h =
-      lies-current m run carries.holds.narrow carries.holds.wide states (length states) carries.holds.states-are i (rw current-count h)
+      lies-current m run carries.holds.narrow carries.holds.wide states (length states) carries.holds.states_are i (rw current-count h)
 
   pub current-wide : OfWidth m (rows_of run.current)
   current-wide = wide-front m (rows_of run.current) run.retired carries.holds.wide
@@ -51,10 +51,10 @@ module _ {weights : List ℕ} {m : ℕ} {ws : List ℕ} {run : Run} {states : By
         let r : j < length (rows_of run.current) = rw current-count l in
         let apart = measured m (rows_of run.current) carries.holds.narrow current-wide ws carries.as_wide states
         (λ k g. stored-current k (rw current-count at g)) i j (omega arith) r in
-        rw carries.weights-are (carries.holds.distances-are i j h r ∙ sym apart);
+        rw carries.weights_are (carries.holds.distances_are i j h r ∙ sym apart);
     telling = λ c h. elim (dec_lt c m) [
-      | yes l ↦ inl (rw carries.weights-are (let w = carries.as_wide in
-          let e = stored-state ws c (omega arith) in λ z. omega (arith, carries.each-weighs c l)))
+      | yes l ↦ inl (rw carries.weights_are (let w = carries.as_wide in
+          let e = stored-state ws c (omega arith) in λ z. omega (arith, carries.each_weighs c l)))
       | no f ↦ inr (λ i j hi hj.
           let zero : (k : ℕ) → k < held.state.types → get_or (stored_at states k) c 0 ≡ 0 = λ k g.
           let w = current-wide k (rw current-count g) in rw (stored-current k g) (past_row (row_at (rows_of run.current) k) c (omega arith) h) in

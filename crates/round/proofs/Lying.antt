@@ -20,8 +20,8 @@ module _ (m : ℕ) (xs ys : List Row) where
   pub wide-front : OfWidth m (xs ++ ys) → OfWidth m xs
   wide-front w i h = rw (← get_or-append xs ys [] i h) (w i (omega (arith, length-append xs ys)))
 
-  pub wide-rear : OfWidth m (xs ++ ys) → OfWidth m ys
-  wide-rear w i h = rw (← get_or-append-add xs ys i []) (w (length xs + i) (omega (arith, length-append xs ys)))
+  pub wide_rear : OfWidth m (xs ++ ys) → OfWidth m ys
+  wide_rear w i h = rw (← get_or-append-add xs ys i []) (w (length xs + i) (omega (arith, length-append xs ys)))
 
   pub wide_both : OfWidth m xs → OfWidth m ys → OfWidth m (xs ++ ys)
   wide_both a b i h = elim (dec_lt i (length xs)) [

@@ -12,32 +12,32 @@ use Rattle.rules.specs.Purge.{Run}
 use Rattle.rules.specs.Round.{made}
 use Rattle.rules.specs.Run.{fresh}
 use Rattle.links.specs.Marks.{TellsLinks}
-use Rattle.purge.specs.State.{epsilonOf}
+use Rattle.purge.specs.State.{epsilon_of}
 use Rattle.purge.specs.declared.state.Held.{Held}
 use Rattle.round.specs.Fresh.{Fresh}
 use Rattle.round.specs.declared.candidates.Added.{Added}
 use Rattle.round.specs.Grown.{Grew}
 use Rattle.round.specs.Rounded.{Carries, Grows, Rounded}
-use Rattle.round.proofs.Grown.{grew-bounds, grown-holds}
-use Rattle.round.proofs.Added.{fresh-wide, fresh-count, fresh-laid, no-offer, some-offer, crowded}
+use Rattle.round.proofs.Grown.{grew_bounds, grown-holds}
+use Rattle.round.proofs.Added.{fresh-wide, fresh-count, fresh-laid, no_offer, some_offer, crowded}
 
 module _ {weights : List ℕ} {states : Bytes} {area : List ℕ} {held : Held} {r : Added} (within : held.state.types ≤ held.state.made)
     (few : held.state.made ≤ 128) (rounds : held.state.rounds ≤ held.state.made)
-    (found : Fresh weights states area held.state.types held.state.made (epsilonOf held.state.phase) r) where
+    (found : Fresh weights states area held.state.types held.state.made (epsilon_of held.state.phase) r) where
   pub none-added : r.count ≡ 0 → length held.kinds ≡ 128 →
       Rounded weights states area held states area (record { held = held; added = 0; full = r.full })
   none-added none kinds = record {
-    states-size = refl;
-    area-size = refl;
-    phase-stays = refl;
-    kinds-size = kinds;
-    made-are = omega arith;
+    states_size = refl;
+    area_size = refl;
+    phase_stays = refl;
+    kinds_size = kinds;
+    made_are = omega arith;
     few = few;
     within = within;
-    rounds-few = rounds;
-    none-if-full = λ full. refl;
+    rounds_few = rounds;
+    none_if_full = λ full. refl;
     as_it_was = λ z. (refl, refl, refl);
-    settles = λ m ws run carries tells z room. no-offer carries few tells found room none;
+    settles = λ m ws run carries tells z room. no_offer carries few tells found room none;
     crowds = λ m ws run carries tells full. crowded carries few tells found full;
     grows = λ m ws run carries tells more. absurd (omega arith);
   }
@@ -48,31 +48,31 @@ module _ {weights : List ℕ} {states : Bytes} {area : List ℕ} {held : Held} {
     has_room = is_false r.full (λ full. omega (arith, (found.none_then full).0))
 
     next-run : (m : ℕ) (ws : List ℕ) (run : Run) → Carries weights m ws run states area held →
-        TellsLinks ws (epsilonOf held.state.phase) (rows_of run.current) area → Grows m ws (epsilonOf held.state.phase) run states' area' next
+        TellsLinks ws (epsilon_of held.state.phase) (rows_of run.current) area → Grows m ws (epsilon_of held.state.phase) run states' area' next
     next-run m ws run carries tells =
-        let xs = fresh ws (epsilonOf held.state.phase) run in
+        let xs = fresh ws (epsilon_of held.state.phase) run in
         let all = fresh-count carries few tells found has_room in
-        let room : length (made run) + length xs ≤ 128 = omega (arith, found.room, carries.holds.made-are) in
+        let room : length (made run) + length xs ≤ 128 = omega (arith, found.room, carries.holds.made_are) in
         record {
-          some = some-offer carries few tells found has_room some;
+          some = some_offer carries few tells found has_room some;
           room = room;
-          holds = grown-holds carries.holds carries.weights-are carries.as_wide fits xs (fresh-wide carries few tells) room (fresh-laid carries few tells found has_room) all grew;
+          holds = grown-holds carries.holds carries.weights_are carries.as_wide fits xs (fresh-wide carries few tells) room (fresh-laid carries few tells found has_room) all grew;
         }
 
     pub some-added : Rounded weights states area held states' area' (record { held = next; added = r.count; full = false })
     some-added =
-        let b = grew-bounds grew within found.room found.size fits in
+        let b = grew_bounds grew within found.room found.size fits in
         let enough = found.room in
         record {
-          states-size = b.states-size;
-          area-size = b.area-size;
-          phase-stays = b.phase-stays;
-          kinds-size = b.kinds-size;
-          made-are = b.made-are;
+          states_size = b.states_size;
+          area_size = b.area_size;
+          phase_stays = b.phase_stays;
+          kinds_size = b.kinds_size;
+          made_are = b.made_are;
           few = omega arith;
           within = omega arith;
-          rounds-few = omega arith;
-          none-if-full = λ full. absurd (false≢true full);
+          rounds_few = omega arith;
+          none_if_full = λ full. absurd (false≢true full);
           as_it_was = λ none. absurd (omega arith);
           settles = λ m ws run carries tells none. absurd (omega arith);
           crowds = λ m ws run carries tells full. absurd (false≢true full);

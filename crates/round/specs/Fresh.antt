@@ -1,14 +1,14 @@
 -- The rows that a round adds.
 use Rattle.std.specs.Prelude.{◌≡◌, ◌≢◌, ◌↔◌, true, false, cond, List, ℕ, ◌+◌, ◌*◌, ◌≤◌, ◌<◌, length, replicate}
 use Rattle.graph.proofs.Below.{In}
-use Rattle.rules.specs.Sizes.{mostTypes, rowSize, stateArea, distanceArea}
+use Rattle.rules.specs.Sizes.{most_types, row_size, state_area, distance_area}
 use Rattle.rules.specs.Job.{Bytes}
 use Rattle.rules.specs.Call.{padded}
 use Rattle.rules.proofs.Rounds.{AscendingRows}
 use Rattle.types.specs.State.{laid}
 use Rattle.distances.specs.Area.{Weighed}
 use Rattle.triplets.specs.Followers.{Followers}
-use Rattle.medians.specs.Search.{aboveAllCosts}
+use Rattle.medians.specs.Search.{above_all_costs}
 use Rattle.medians.specs.declared.search.Search.{Search}
 use Rattle.sweep.specs.Candidate.{Candidate, Faithful}
 use Rattle.sweep.specs.Floors.{Floors}
@@ -16,29 +16,29 @@ use Rattle.sweep.specs.declared.Survey.{Survey}
 use Rattle.round.specs.declared.candidates.Added.{Added}
 
 -- So many rows; and no row, because there is no room.
-abbrev pub withRows : Bytes → ℕ → Added
-withRows rows count = record { rows = rows; count = count; full = false }
+abbrev pub with_rows : Bytes → ℕ → Added
+with_rows rows count = record { rows = rows; count = count; full = false }
 
-abbrev pub noneFits : Added
-noneFits = record { rows = replicate stateArea 0; count = 0; full = true }
+abbrev pub none_fits : Added
+none_fits = record { rows = replicate state_area 0; count = 0; full = true }
 
 -- What a search that gathered rows comes to.
-abbrev pub addedOf : Bytes → Search → Added
-addedOf rows s = cond s.full noneFits (withRows rows s.count)
+abbrev pub added_of : Bytes → Search → Added
+added_of rows s = cond s.full none_fits (with_rows rows s.count)
 
 -- What it takes to choose a round's rows: n types are current, and who is linked with them is known.
 pub record Choosing (states : Bytes) (area ws next : List ℕ) (n made : ℕ) : Type 0 where
   pub weighed : Weighed ws
   pub follows : Followers area n next
   pub current : n ≤ made
-  pub few : made ≤ mostTypes
-  pub lie : rowSize * made ≤ length states
-  pub cells : distanceArea ≤ length area
+  pub few : made ≤ most_types
+  pub lie : row_size * made ≤ length states
+  pub cells : distance_area ≤ length area
 
 -- What a search for lambda comes to: the cost of a candidate, than which none costs less; or more than any cost. And there are floors.
 pub record LambdaSought (ws : List ℕ) (states : Bytes) (area : List ℕ) (v : Survey) : Type 0 where
-  pub no-higher : v.search.below ≤ aboveAllCosts
-  pub met : v.search.below ≢ aboveAllCosts → (x : Bytes) × Candidate ws states area v.size.types v.search.made x v.search.below
+  pub no_higher : v.search.below ≤ above_all_costs
+  pub met : v.search.below ≢ above_all_costs → (x : Bytes) × Candidate ws states area v.size.types v.search.made x v.search.below
   pub least : Faithful ws states area v.size.types → (x : Bytes) (cost : ℕ) →
       Candidate ws states area v.size.types v.search.made x cost → v.search.below ≤ cost
   pub floors : Floors ws states area v.size.types v.search.made v.floors
@@ -54,18 +54,18 @@ pub record All (ws : List ℕ) (states : Bytes) (area : List ℕ) (n made e : �
   pub xs : List Bytes
   pub ascends : AscendingRows xs
   pub exact : (x : Bytes) → In x xs ↔ InWindow ws states area n made e x
-  pub count-is : r.count ≡ length xs
-  pub rows_are : r.rows ≡ padded stateArea (laid xs)
+  pub count_is : r.count ≡ length xs
+  pub rows_are : r.rows ≡ padded state_area (laid xs)
 
 pub record TooMany (ws : List ℕ) (states : Bytes) (area : List ℕ) (n made e : ℕ) : Type 0 where
   pub xs : List Bytes
   pub ascends : AscendingRows xs
   pub each : (x : Bytes) → In x xs → InWindow ws states area n made e x
-  pub no_room : mostTypes < made + length xs
+  pub no_room : most_types < made + length xs
 
 pub record Fresh (ws : List ℕ) (states : Bytes) (area : List ℕ) (n made e : ℕ) (r : Added) : Type 0 where
-  pub size : length r.rows ≡ stateArea
-  pub room : made + r.count ≤ mostTypes
+  pub size : length r.rows ≡ state_area
+  pub room : made + r.count ≤ most_types
   pub all : Faithful ws states area n → r.full ≡ false → All ws states area n made e r
   pub too_many : Faithful ws states area n → r.full ≡ true → TooMany ws states area n made e
-  pub none_then : r.full ≡ true → (r.count ≡ 0) × (r.rows ≡ replicate stateArea 0)
+  pub none_then : r.full ≡ true → (r.count ≡ 0) × (r.rows ≡ replicate state_area 0)

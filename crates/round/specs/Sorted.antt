@@ -2,15 +2,15 @@
 use Rattle.std.specs.Prelude.{Bool, true, false, cond, not, List, [], ◌∷◌, ◌++◌, ℕ, zero, suc, ◌*◌}
 use Prim.Native.Nat.{Ordering}
 use Rattle.graph.specs.Below.{first}
-use Rattle.rules.specs.Sizes.{rowSize}
+use Rattle.rules.specs.Sizes.{row_size}
 use Rattle.rules.specs.Job.{Bytes, Row}
-use Rattle.rules.specs.Round.{compareRows}
+use Rattle.rules.specs.Round.{compare_rows}
 use Rattle.types.specs.State.{stored_at, rows_from}
 use Rattle.memory.specs.Placed.{placed}
 
 -- A row stands before another: the first difference decides.
 abbrev pub before : Row → Row → Bool
-before x y = elim (compareRows x y) [ Ordering.lt ↦ true | Ordering.eq ↦ false | Ordering.gt ↦ false ]
+before x y = elim (compare_rows x y) [ Ordering.lt ↦ true | Ordering.eq ↦ false | Ordering.gt ↦ false ]
 
 -- A row put in front of the first that does not stand before it.
 unfoldable pub put : Row → List Row → List Row
@@ -23,8 +23,8 @@ sorted zero f = []
 sorted (suc n) f = put (f n) (sorted n f)
 
 -- The same in memory, rows of 64 bytes one behind the other.
-abbrev pub rowPlace : Bytes → ℕ → Bytes → ℕ
-rowPlace rows count row = first count (λ i. not (before (stored_at rows i) row))
+abbrev pub row_place : Bytes → ℕ → Bytes → ℕ
+row_place rows count row = first count (λ i. not (before (stored_at rows i) row))
 
 unfoldable pub with_row : Bytes → ℕ → Bytes → Bytes
-with_row rows count row = let i = rowPlace rows count row in placed rows (rowSize * i) (row ++ rows_from rows i count)
+with_row rows count row = let i = row_place rows count row in placed rows (row_size * i) (row ++ rows_from rows i count)

@@ -1,10 +1,10 @@
 // The corner of ascending order: rows sorted by their bytes, in the memory in which they lie.
 
 ghost use Rattle.std.specs.Prelude.{◌≡◌, ◌+◌, ◌*◌, ◌≤◌, ◌<◌, length};
-ghost use Rattle.rules.specs.Sizes.{mostTypes, rowSize, stateArea};
+ghost use Rattle.rules.specs.Sizes.{most_types, row_size, state_area};
 ghost use Rattle.memory.specs.Placed.{placed};
 ghost use Rattle.types.specs.State.{stored_at, laid, rows_from};
-ghost use Rattle.round.specs.Sorted.{before, rowPlace, with_row, sorted};
+ghost use Rattle.round.specs.Sorted.{before, row_place, with_row, sorted};
 
 use memory::copy;
 use rules::ROW;
@@ -12,7 +12,7 @@ use types::row_at;
 
 // Whether row i stands before a row: the first difference decides.
 fn before(rows: &[u8], i: usize, row: &[u8; ROW]) -> bool
-    requires { rowSize * i + rowSize ≤ length rows.now }
+    requires { row_size * i + row_size ≤ length rows.now }
     ensures { result ≡ before (stored_at rows.now i) row.now }
 {
     let at = ROW * i;
@@ -30,8 +30,8 @@ fn before(rows: &[u8], i: usize, row: &[u8; ROW]) -> bool
 
 // The place of a row: the first of the rows that does not stand before it, or their count.
 fn place_of_row(rows: &[u8], count: usize, row: &[u8; ROW]) -> usize
-    requires { rowSize * count ≤ length rows.now }
-    ensures { result ≡ rowPlace rows.now count row.now }
+    requires { row_size * count ≤ length rows.now }
+    ensures { result ≡ row_place rows.now count row.now }
 {
     let mut i = 0;
     while i < count {
@@ -45,8 +45,8 @@ fn place_of_row(rows: &[u8], count: usize, row: &[u8; ROW]) -> usize
 
 // The rows from number `from` on move up by one.
 fn move_up(rows: &mut [u8], from: usize, count: usize)
-    requires { (from ≤ count) × (count < mostTypes) × (length rows.old ≡ stateArea) }
-    ensures { rows.new ≡ placed rows.old (rowSize * from + rowSize) (rows_from rows.old from count) }
+    requires { (from ≤ count) × (count < most_types) × (length rows.old ≡ state_area) }
+    ensures { rows.new ≡ placed rows.old (row_size * from + row_size) (rows_from rows.old from count) }
 {
     let mut i = count;
     while from < i {
@@ -58,7 +58,7 @@ fn move_up(rows: &mut [u8], from: usize, count: usize)
 
 // Puts a row into its place, and those from there on move up.
 fn insert(rows: &mut [u8], count: usize, row: &[u8; ROW])
-    requires { (count < mostTypes) × (length rows.old ≡ stateArea) }
+    requires { (count < most_types) × (length rows.old ≡ state_area) }
     ensures { rows.new ≡ with_row rows.old count row.now }
 {
     let i = place_of_row(rows, count, row);
@@ -68,7 +68,7 @@ fn insert(rows: &mut [u8], count: usize, row: &[u8; ROW])
 
 // Puts the rows into ascending order. What is behind them stays.
 pub fn ascending(rows: &mut [u8], count: usize)
-    requires { (count ≤ mostTypes) × (length rows.old ≡ stateArea) }
+    requires { (count ≤ most_types) × (length rows.old ≡ state_area) }
     ensures { rows.new ≡ placed rows.old 0 (laid (sorted count (stored_at rows.old))) }
 {
     let mut k = 0;

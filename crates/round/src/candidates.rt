@@ -2,11 +2,11 @@
 // the round adds. It reads the state area and the distance area.
 
 ghost use Rattle.std.specs.Prelude.{◌≡◌, ◌≤◌, length, replicate};
-ghost use Rattle.rules.specs.Sizes.{mostTypes, stateArea};
-ghost use Rattle.medians.specs.Guesses.{guessesSize};
-ghost use Rattle.medians.specs.Search.{forLambda};
+ghost use Rattle.rules.specs.Sizes.{most_types, state_area};
+ghost use Rattle.medians.specs.Guesses.{guesses_size};
+ghost use Rattle.medians.specs.Search.{for_lambda};
 ghost use Rattle.sweep.specs.Candidate.{Remembered};
-ghost use Rattle.round.specs.Fresh.{noneFits, addedOf, Choosing, LambdaSought, Fresh};
+ghost use Rattle.round.specs.Fresh.{none_fits, added_of, Choosing, LambdaSought, Fresh};
 
 use crate::ascending::ascending;
 use medians::guesses::guess_all;
@@ -24,7 +24,7 @@ pub struct Added {
 
 // No row is added, because there is no room.
 fn none_fits() -> Added
-    ensures { result ≡ noneFits }
+    ensures { result ≡ none_fits }
 {
     let rows = [0u8; STATE_AREA];
     Added {
@@ -43,7 +43,7 @@ struct Window {
 
 // Before the first sweep: lambda is looked for, and of the floors nothing is known.
 fn seeking(size: Size, made: usize) -> Survey
-    ensures { (result.size ≡ size) × (result.search ≡ forLambda made) × (result.floors ≡ replicate mostTypes 0) }
+    ensures { (result.size ≡ size) × (result.search ≡ for_lambda made) × (result.floors ≡ replicate most_types 0) }
 {
     let search = Search::for_lambda(made);
     let floors = [0usize; MOST_TYPES];
@@ -68,8 +68,8 @@ fn gather_window(
     window: Window,
 ) -> Search
     requires { Choosing states.now area.now weights.now next.now window.least.size.types window.least.search.made × (window.epsilon ≤ 65535)
-        × Remembered states.now mismatches.old window.least.size.width window.least.search.made × (length guesses.old ≡ guessesSize) × LambdaSought weights.now states.now area.now window.least × (rows.old ≡ replicate stateArea 0) }
-    ensures { Fresh weights.now states.now area.now window.least.size.types window.least.search.made window.epsilon (addedOf rows.new result) }
+        × Remembered states.now mismatches.old window.least.size.width window.least.search.made × (length guesses.old ≡ guesses_size) × LambdaSought weights.now states.now area.now window.least × (rows.old ≡ replicate state_area 0) }
+    ensures { Fresh weights.now states.now area.now window.least.size.types window.least.search.made window.epsilon (added_of rows.new result) }
 {
     let least = window.least;
     let lambda = least.search.below;
@@ -94,7 +94,7 @@ fn gather_window(
 
 // What a search that gathered comes to: so many rows, or no room for them.
 fn come_to(rows: [u8; STATE_AREA], search: Search) -> Added
-    ensures { result ≡ addedOf rows search }
+    ensures { result ≡ added_of rows search }
 {
     if search.full {
         return none_fits();

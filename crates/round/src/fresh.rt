@@ -2,7 +2,7 @@
 // links, mismatches and hints of the rows made are worth their making. It reads the state area and the distance area.
 
 ghost use Rattle.std.specs.Prelude.{◌*◌, ◌≤◌, length};
-ghost use Rattle.rules.specs.Sizes.{mostTypes, rowSize, distanceArea};
+ghost use Rattle.rules.specs.Sizes.{most_types, row_size, distance_area};
 ghost use Rattle.distances.specs.Area.{Weighed};
 ghost use Rattle.round.specs.Fresh.{Choosing, Fresh};
 
@@ -79,7 +79,7 @@ fn choose_without_mismatches(
 // Whether the types have some four links each, so that mismatches of rows are worth their making: either answer is right. Of one type in four
 // the links with the types below it are counted.
 fn many_links(area: &[u16], n: usize) -> bool
-    requires { (n ≤ mostTypes) × (distanceArea ≤ length area.now) }
+    requires { (n ≤ most_types) × (distance_area ≤ length area.now) }
 {
     let mut links = 0usize;
     let mut i = 0;
@@ -99,7 +99,7 @@ pub fn fresh(
     made: usize,
     epsilon: usize,
 ) -> Added
-    requires { Weighed weights.now × (n ≤ made) × (made ≤ mostTypes) × (epsilon ≤ 65535) × (rowSize * made ≤ length states.now) × (distanceArea ≤ length area.now) }
+    requires { Weighed weights.now × (n ≤ made) × (made ≤ most_types) × (epsilon ≤ 65535) × (row_size * made ≤ length states.now) × (distance_area ≤ length area.now) }
     ensures { Fresh weights.now states.now area.now n made epsilon result }
 {
     let mut next = [256u16; FOLLOWERS];

@@ -7,11 +7,11 @@ pub mod candidates;
 pub mod fresh;
 
 ghost use Rattle.std.specs.Prelude.{◌≡◌, ◌++◌, ◌+◌, ◌*◌, ◌≤◌, length, take};
-ghost use Rattle.rules.specs.Sizes.{mostTypes, rowSize, stateArea, distanceArea};
+ghost use Rattle.rules.specs.Sizes.{most_types, row_size, state_area, distance_area};
 ghost use Rattle.memory.specs.Placed.{placed};
 ghost use Rattle.distances.specs.Area.{Weighed};
-ghost use Rattle.purge.specs.State.{epsilonOf};
-ghost use Rattle.round.specs.Grown.{kindsWith, Grew};
+ghost use Rattle.purge.specs.State.{epsilon_of};
+ghost use Rattle.round.specs.Grown.{kinds_with, Grew};
 ghost use Rattle.round.specs.Rounded.{Rounded};
 ghost use Rattle.types.specs.State.{rows_from};
 
@@ -30,8 +30,8 @@ pub struct Turn {
 
 // The rows added go between the t current ones and those retired.
 fn insert_rows(states: &mut [u8], rows: [u8; STATE_AREA], count: usize, t: usize, made: usize)
-    requires { (t ≤ made) × (made + count ≤ mostTypes) × (length rows ≡ stateArea) × (stateArea ≤ length states.old) }
-    ensures { states.new ≡ placed states.old (rowSize * t) (take (rowSize * count) rows ++ rows_from states.old t made) }
+    requires { (t ≤ made) × (made + count ≤ most_types) × (length rows ≡ state_area) × (state_area ≤ length states.old) }
+    ensures { states.new ≡ placed states.old (row_size * t) (take (row_size * count) rows ++ rows_from states.old t made) }
 {
     let mut all = rows;
     let from = ROW * t;
@@ -43,8 +43,8 @@ fn insert_rows(states: &mut [u8], rows: [u8; STATE_AREA], count: usize, t: usize
 
 // The kinds of the types added in a round.
 fn put_kinds(kinds: [Kind; MOST_TYPES], t: usize, count: usize, round: usize) -> [Kind; MOST_TYPES]
-    requires { (t + count ≤ mostTypes) × (length kinds ≡ mostTypes) }
-    ensures { result ≡ kindsWith kinds t count round }
+    requires { (t + count ≤ most_types) × (length kinds ≡ most_types) }
+    ensures { result ≡ kinds_with kinds t count round }
 {
     let new = Kind {
         origin: Origin::Inferred { round },
@@ -68,9 +68,9 @@ fn add_types(
     rows: [u8; STATE_AREA],
     count: usize,
 ) -> Held
-    requires { Weighed weights.now × (held.state.types ≤ held.state.made) × (held.state.made + count ≤ mostTypes)
-        × (held.state.rounds ≤ held.state.made) × (length held.kinds ≡ mostTypes) × (length rows ≡ stateArea)
-        × (stateArea ≤ length states.old) × (distanceArea ≤ length area.old) }
+    requires { Weighed weights.now × (held.state.types ≤ held.state.made) × (held.state.made + count ≤ most_types)
+        × (held.state.rounds ≤ held.state.made) × (length held.kinds ≡ most_types) × (length rows ≡ state_area)
+        × (state_area ≤ length states.old) × (distance_area ≤ length area.old) }
     ensures { Grew weights.now states.old area.old held rows count states.new area.new result }
 {
     let state = held.state;
@@ -87,9 +87,9 @@ fn add_types(
 
 // A round: all candidates of a cost of at most lambda and epsilon are added. The links of the current types stand in the area.
 pub fn round(states: &mut [u8], area: &mut [u16], weights: &[u16], held: Held) -> Turn
-    requires { Weighed weights.now × (held.state.types ≤ held.state.made) × (held.state.made ≤ mostTypes)
-        × (held.state.rounds ≤ held.state.made) × (length held.kinds ≡ mostTypes) × (epsilonOf held.state.phase ≤ 65535)
-        × (stateArea ≤ length states.old) × (distanceArea ≤ length area.old) }
+    requires { Weighed weights.now × (held.state.types ≤ held.state.made) × (held.state.made ≤ most_types)
+        × (held.state.rounds ≤ held.state.made) × (length held.kinds ≡ most_types) × (epsilon_of held.state.phase ≤ 65535)
+        × (state_area ≤ length states.old) × (distance_area ≤ length area.old) }
     ensures { Rounded weights.now states.old area.old held states.new area.new result }
 {
     let state = held.state;

@@ -11,13 +11,13 @@ use lib.Dec.{eqb}
 use lib.ListN.{length, get_or}
 use borrow.Author.Tests.{eqb-true, eqb-false, eq-eqb, ne_eqb}
 use Rattle.graph.specs.Below.{sum, table}
-use Rattle.graph.proofs.Below.{last_or, table-ext, table-getD, sum-ext, sum-le, sum-plus}
+use Rattle.graph.proofs.Below.{last_or, table_ext, table-get_or, sum_ext, sum_le, sum_plus}
 use Rattle.rules.specs.Job.{Row}
 use Rattle.rules.specs.Types.{row_at}
 use Rattle.rules.specs.Distance.{difference, distance}
 use Rattle.rules.specs.Median.{common, median, medians, connection}
-use Rattle.rules.proofs.Distance.{distance-sym}
-use Rattle.rules.proofs.Median.{OneOf, gap, gaps, by-character, median-state, length-median}
+use Rattle.rules.proofs.Distance.{distance_sym}
+use Rattle.rules.proofs.Median.{OneOf, gap, gaps, by_character, median-state, length-median}
 
 -- Of three states all are the same, or two are, or none.
 module _ (a b c : ℕ) where
@@ -72,8 +72,8 @@ module _ (k a b c : ℕ) where
       (omega arith)
       (omega arith)
 
-  pub spread-le : spread k a b c ≤ 2 * k
-  spread-le =
+  pub spread_le : spread k a b c ≤ 2 * k
+  spread_le =
       cases a b c
       (λ p q r. cond p 0 k + cond q 0 (cond r 0 k) ≤ 2 * k)
       (omega arith)
@@ -87,8 +87,8 @@ module _ (k a b c : ℕ) where
   triangle =
       cases a b c (λ p q r. cond q 0 k ≤ cond p 0 k + cond r 0 k) (omega arith) (omega arith) (omega arith) (omega arith) (omega arith)
 
-  on-the-way : k ≢ 0 → gap k a c ≡ gap k a b + gap k b c → (b ≡ a) ⊎ (b ≡ c)
-  on-the-way ne =
+  on_the_way : k ≢ 0 → gap k a c ≡ gap k a b + gap k b c → (b ≡ a) ⊎ (b ≡ c)
+  on_the_way ne =
       cases a b c
       (λ p q r. eqb a b ≡ p → eqb b c ≡ r → cond q 0 k ≡ cond p 0 k + cond r 0 k → (b ≡ a) ⊎ (b ≡ c))
       (λ e g t. inl (sym (eqb-true a b e)))
@@ -105,41 +105,41 @@ pub median-is : (x u v w y : Row) → length x ≡ length y →
 unfolding median
 median-is x u v w y l same =
     let f : ℕ → ℕ = λ c. common (get_or x c 0) (get_or u c 0) (get_or v c 0) (get_or w c 0) in
-    ap (λ (n : ℕ). table n f) l ∙ table-ext (length y) f (λ c. get_or y c 0) same ∙ table-getD y 0
+    ap (λ (n : ℕ). table n f) l ∙ table_ext (length y) f (λ c. get_or y c 0) same ∙ table-get_or y 0
 
 module _ (ws : List ℕ) (u v w : Row) where
   -- The connection cost of the median vectors, summed character by character.
   pub cost-spread : length u ≡ length ws →
       connection ws (median u u v w) u v w ≡ sum (length ws) (λ c. spread (get_or ws c 0) (get_or u c 0) (get_or v c 0) (get_or w c 0))
   cost-spread l =
-      by-character ws u v w (median u u v w)
-      ∙ sum-ext (length ws) _ _ (λ c h.
+      by_character ws u v w (median u u v w)
+      ∙ sum_ext (length ws) _ _ (λ c h.
       rw (median-state u u v w c (omega arith)) (spread-gaps (get_or ws c 0) (get_or u c 0) (get_or v c 0) (get_or w c 0)))
 
   -- It is at least half of the sum of the three distances.
-  pub half-way : length u ≡ length ws → distance ws u v + distance ws u w + distance ws v w ≤ 2 * connection ws (median u u v w) u v w
+  pub half_way : length u ≡ length ws → distance ws u v + distance ws u w + distance ws v w ≤ 2 * connection ws (median u u v w) u v w
   unfolding distance
-  half-way l =
+  half_way l =
       let n = length ws in
       let d : Row → Row → ℕ → ℕ = λ x y. difference ws x y in
       let f : ℕ → ℕ = λ c. spread (get_or ws c 0) (get_or u c 0) (get_or v c 0) (get_or w c 0) in
       omega (
         arith,
         cost-spread l,
-        sum-plus n (λ c. d u v c + d u w c) (d v w),
-        sum-plus n (d u v) (d u w),
-        sum-plus n f f,
-        sum-le n (λ c. d u v c + d u w c + d v w c) (λ c. f c + f c) (λ c h. spread-twice (get_or ws c 0) (get_or u c 0) (get_or v c 0) (get_or w c 0)),
+        sum_plus n (λ c. d u v c + d u w c) (d v w),
+        sum_plus n (d u v) (d u w),
+        sum_plus n f f,
+        sum_le n (λ c. d u v c + d u w c + d v w c) (λ c. f c + f c) (λ c h. spread-twice (get_or ws c 0) (get_or u c 0) (get_or v c 0) (get_or w c 0)),
       )
 
 -- Of two sums of which one has no larger term and is no smaller, all terms are equal.
-pub sum-tight : (n : ℕ) (f g : ℕ → ℕ) → ((i : ℕ) → i < n → f i ≤ g i) → sum n g ≤ sum n f → (i : ℕ) → i < n → f i ≡ g i
+pub sum_tight : (n : ℕ) (f g : ℕ → ℕ) → ((i : ℕ) → i < n → f i ≤ g i) → sum n g ≤ sum n f → (i : ℕ) → i < n → f i ≡ g i
 unfolding sum
-sum-tight zero f g l s i h = absurd (not-suc-le-zero h)
-sum-tight (suc n) f g l s i h =
+sum_tight zero f g l s i h = absurd (not-suc-le-zero h)
+sum_tight (suc n) f g l s i h =
     let less : (j : ℕ) → j < n → f j ≤ g j = λ j k. l j (omega arith) in
     let last = l n (omega arith) in
-    last_or (λ j. f j ≡ g j) n i h (omega (arith, sum-le n f g less)) (λ k. sum-tight n f g less (omega arith) i k)
+    last_or (λ j. f j ≡ g j) n i h (omega (arith, sum_le n f g less)) (λ k. sum_tight n f g less (omega arith) i k)
 
 -- A row on the way between two others: in each character it has the state of one of them. Its distances to them tell it where no
 -- character that weighs nothing differs.
@@ -150,9 +150,9 @@ unfolding distance
 between ws u v w e sure c h =
     let n = length ws in
     let both : ℕ → ℕ = λ c. difference ws u v c + difference ws v w c in
-    let tight = sum-tight n (difference ws u w) both (λ c h. triangle (get_or ws c 0) (get_or u c 0) (get_or v c 0) (get_or w c 0))
-    (omega (arith, sum-plus n (difference ws u v) (difference ws v w))) c h in
-    ⊎_elim (λ ne. on-the-way (get_or ws c 0) (get_or u c 0) (get_or v c 0) (get_or w c 0) ne tight) inl (sure c h)
+    let tight = sum_tight n (difference ws u w) both (λ c h. triangle (get_or ws c 0) (get_or u c 0) (get_or v c 0) (get_or w c 0))
+    (omega (arith, sum_plus n (difference ws u v) (difference ws v w))) c h in
+    ⊎_elim (λ ne. on_the_way (get_or ws c 0) (get_or u c 0) (get_or v c 0) (get_or w c 0) ne tight) inl (sure c h)
 
 -- A choice of two numbers is y where each of them is y if it is chosen.
 taken : (t : Bool) (a z y : ℕ) → (t ≡ true → a ≡ y) → z ≡ y → cond t a z ≡ y
@@ -185,8 +185,8 @@ each-median P u v w f (suc (suc zero)) h = f w (inr (inr refl))
 each-median P u v w f (suc (suc (suc k))) h = absurd (omega arith)
 
 -- One of three rows of length n has length n.
-pub one-of-length : {x u v w : Row} (n : ℕ) → length u ≡ n → length v ≡ n → length w ≡ n → OneOf x u v w → length x ≡ n
-one-of-length n lu lv lw = ⊎_elim (λ e. ap length e ∙ lu) (⊎_elim (λ e. ap length e ∙ lv) (λ e. ap length e ∙ lw))
+pub one_of_length : {x u v w : Row} (n : ℕ) → length u ≡ n → length v ≡ n → length w ≡ n → OneOf x u v w → length x ≡ n
+one_of_length n lu lv lw = ⊎_elim (λ e. ap length e ∙ lu) (⊎_elim (λ e. ap length e ∙ lv) (λ e. ap length e ∙ lw))
 
 -- Rows as long as the weights, in which no character that weighs nothing differs.
 module _ (ws : List ℕ) (u v w : Row) (lu : length u ≡ length ws) (lv : length v ≡ length ws) (lw : length w ≡ length ws)
@@ -199,18 +199,18 @@ module _ (ws : List ℕ) (u v w : Row) (lu : length u ≡ length ws) (lv : lengt
   middle a y b ly e same held =
       let way = between ws a y b e (λ c h. ⊎_map (λ ne. ne) (same c) (telling c h)) in
       each-median (λ r. r ≡ y) u v w (λ x o.
-      median-held x u v w y (one-of-length (length ws) lu lv lw o ∙ sym ly) (λ c h. held c (way c (omega arith))))
+      median-held x u v w y (one_of_length (length ws) lu lv lw o ∙ sym ly) (λ c h. held c (way c (omega arith))))
 
   pub middle-v : distance ws u v + distance ws v w ≡ distance ws u w → (k : ℕ) → k < 3 → row_at (medians u v w) k ≡ v
   middle-v e = middle u v w lv e (λ c s. sym s.0) (λ c. ⊎_elim (λ z. inl (z, refl)) (λ z. inr (inr (refl, z))))
 
   pub middle-u : distance ws u v + distance ws u w ≡ distance ws v w → (k : ℕ) → k < 3 → row_at (medians u v w) k ≡ u
   middle-u e =
-      middle v u w lu (rw (distance-sym ws v u) e) (λ c s. s.0) (λ c. ⊎_elim (λ z. inl (refl, z)) (λ z. inr (inl (refl, z))))
+      middle v u w lu (rw (distance_sym ws v u) e) (λ c s. s.0) (λ c. ⊎_elim (λ z. inl (refl, z)) (λ z. inr (inl (refl, z))))
 
   pub middle-w : distance ws u w + distance ws v w ≡ distance ws u v → (k : ℕ) → k < 3 → row_at (medians u v w) k ≡ w
   middle-w e =
-      middle u w v lw (rw (distance-sym ws w v) e) (λ c s. sym (s.0 ∙ s.1))
+      middle u w v lw (rw (distance_sym ws w v) e) (λ c s. sym (s.0 ∙ s.1))
       (λ c. ⊎_elim (λ z. inr (inl (z, refl))) (λ z. inr (inr (z, refl))))
 
 -- Where a and b give the same, not all three states differ, and any two give the same.
@@ -231,7 +231,7 @@ pub alike-medians : (u v w : Row) → length v ≡ length u → length w ≡ len
     (k : ℕ) → k < 3 → row_at (medians u v w) k ≡ median u u v w
 alike-medians u v w lv lw e =
     each-median (λ r. r ≡ median u u v w) u v w (λ x o.
-    median-is x u v w (median u u v w) (one-of-length (length u) refl lv lw o ∙ sym (length-median u u v w)) (λ c h.
+    median-is x u v w (median u u v w) (one_of_length (length u) refl lv lw o ∙ sym (length-median u u v w)) (λ c h.
     let l : c < length u = rw length-median at h in
     let same = sym (median-state u u v w c l) ∙ ap (λ r. get_or r c 0) e ∙ median-state v u v w c (omega arith) in
     common-alike (get_or u c 0) (get_or v c 0) (get_or w c 0) (get_or x c 0) (get_or u c 0) same ∙ sym (median-state u u v w c l)))

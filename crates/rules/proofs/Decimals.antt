@@ -7,7 +7,7 @@ use native.Mathlib.Nat.{not-suc-le-zero}
 use native.Mathlib.Omega.{arith}
 use native.Mathlib.Decide.{dec_lt}
 use borrow.Author.Tests.{lt-ltb, le-ltb}
-use Rattle.graph.proofs.Below.{In, in-append}
+use Rattle.graph.proofs.Below.{In, in_append}
 use Rattle.rules.specs.Job.{Bytes}
 use Rattle.rules.specs.Text.{digits, decimal}
 use Rattle.rules.proofs.Job.{Within}
@@ -59,5 +59,5 @@ digits-within (suc most) n d h = elim (dec_lt n 10) [
   | yes l ↦ one-within n d l (rw (short most n l) at h)
   | no f ↦
       ⊎_elim (digits-within most (n / 10) d) (one-within (n % 10) d (omega arith))
-      ((in-append d (digits most (n / 10)) ((48 + n % 10) ∷ [])).0 (rw (longer most n (omega arith)) at h))
+      ((in_append d (digits most (n / 10)) ((48 + n % 10) ∷ [])).0 (rw (longer most n (omega arith)) at h))
 ]

@@ -10,7 +10,7 @@ use lib.Dec.{eqb}
 use lib.ListN.{length, get_or}
 use borrow.Author.Tests.{eq-eqb, ne_eqb, eqb-false}
 use Rattle.graph.specs.Below.{sum}
-use Rattle.graph.proofs.Below.{sum-ext, sum-plus, length-table, getD-table}
+use Rattle.graph.proofs.Below.{sum_ext, sum_plus, length-table, get_or-table}
 use Rattle.rules.specs.Job.{Row}
 use Rattle.rules.specs.Distance.{difference, distance}
 use Rattle.rules.specs.Median.{common, median, connection}
@@ -49,7 +49,7 @@ module _ (k a b c : ℕ) where
 -- The states of a median vector, and its length.
 pub median-state : (x u v w : Row) (c : ℕ) → c < length x → get_or (median x u v w) c 0 ≡ common (get_or x c 0) (get_or u c 0) (get_or v c 0) (get_or w c 0)
 unfolding median
-median-state x u v w c h = getD-table (length x) (λ c. common (get_or x c 0) (get_or u c 0) (get_or v c 0) (get_or w c 0)) c 0 h
+median-state x u v w c h = get_or-table (length x) (λ c. common (get_or x c 0) (get_or u c 0) (get_or v c 0) (get_or w c 0)) c 0 h
 
 pub length-median : (x u v w : Row) → length (median x u v w) ≡ length x
 unfolding median
@@ -57,15 +57,15 @@ length-median x u v w = length-table (length x) _
 
 module _ (ws : List ℕ) (u v w : Row) where
   -- The cost, summed character by character.
-  pub by-character : (x : Row) → connection ws x u v w ≡ sum (length ws) (λ c. gaps (get_or ws c 0) (get_or x c 0) (get_or u c 0) (get_or v c 0) (get_or w c 0))
+  pub by_character : (x : Row) → connection ws x u v w ≡ sum (length ws) (λ c. gaps (get_or ws c 0) (get_or x c 0) (get_or u c 0) (get_or v c 0) (get_or w c 0))
   unfolding distance
-  by-character x =
+  by_character x =
       let d : Row → ℕ → ℕ = λ y. difference ws x y in
-      sym (sum-plus (length ws) (λ c. d u c + d v c) (d w) ∙ ap (λ n. n + sum (length ws) (d w)) (sum-plus (length ws) (d u) (d v)))
+      sym (sum_plus (length ws) (λ c. d u c + d v c) (d w) ∙ ap (λ n. n + sum (length ws) (d w)) (sum_plus (length ws) (d u) (d v)))
 
   pub same-connection : (x y : Row) → length x ≡ length ws → length y ≡ length ws → OneOf x u v w → OneOf y u v w →
       connection ws (median x u v w) u v w ≡ connection ws (median y u v w) u v w
-  same-connection x y lx ly h g = by-character _ ∙ sum-ext (length ws) _ _ same ∙ sym (by-character _)
+  same-connection x y lx ly h g = by_character _ ∙ sum_ext (length ws) _ _ same ∙ sym (by_character _)
     where
       state : (z : Row) (c : ℕ) → OneOf z u v w → OneOf (get_or z c 0) (get_or u c 0) (get_or v c 0) (get_or w c 0)
       state z c (inl e) = inl (ap (λ r. get_or r c 0) e)

@@ -10,17 +10,17 @@ use native.Mathlib.Omega.{arith}
 use lib.ListN.{length, get_or, length-append, get_or-append}
 use lib.Seq.{get_or-append-add}
 use Rattle.graph.specs.Below.{gather, only}
-use Rattle.graph.proofs.Below.{In, in-append, in-at, in-gather, in-only, in_map, gather-add, gather_ext, table-getD, each-place, gather-table, empty}
+use Rattle.graph.proofs.Below.{In, in_append, in_at, in_gather, in_only, in_map, gather_add, gather_ext, table-get_or, each-place, gather-table, empty}
 use Rattle.rules.specs.Job.{Row}
-use Rattle.rules.specs.Types.{Node, InferredBy, inferred, row_at, nodeAt, rows_of, sampledAt, sampled}
-use Rattle.rules.specs.Purge.{Run, obsolete, purgeOnce, Purges, purge}
+use Rattle.rules.specs.Types.{Node, InferredBy, inferred, row_at, node_at, rows_of, sampled_at, sampled}
+use Rattle.rules.specs.Purge.{Run, obsolete, purge_once, Purges, purge}
 use Rattle.rules.specs.Round.{made, offers}
 use Rattle.rules.specs.Run.{settled, start, fresh, grown, PhaseOne}
 use Rattle.rules.specs.declared.Link.{Link}
 use Rattle.rules.specs.declared.Origin.TheVariants.{Sampled, Inferred}
-use Rattle.rules.proofs.Types.{in-sampled, sampled-sampled}
-use Rattle.rules.proofs.Rounds.{added-offered, added-some, offer-width, offer-states}
-use Rattle.rules.proofs.Keeps.{purges-keeps, phase-keeps, made-count, made-once, made-grown}
+use Rattle.rules.proofs.Types.{in_sampled, sampled-sampled}
+use Rattle.rules.proofs.Rounds.{added_offered, added-some, offer_width, offer_states}
+use Rattle.rules.proofs.Keeps.{purges-keeps, phase_keeps, made-count, made-once, made-grown}
 use Rattle.rules.proofs.Ends.{purges}
 
 -- A property of the rows of nodes: of each number, and of each node.
@@ -54,8 +54,8 @@ pub record Sound (rs : List Row) (m : ℕ) (run : Run) : Type 0 where
 
 -- What holds of all rows holds of the rows of their types.
 pub rows-sampled : (R : Row → Type 0) (rs : List Row) → ((i : ℕ) → i < length rs → R (row_at rs i)) → EachRow R (sampled rs)
-unfolding sampledAt
-rows-sampled R rs each = (each_row R (sampled rs)).1 (λ t h. let (k, l, e) = in-sampled rs t h in rw e (each k l))
+unfolding sampled_at
+rows-sampled R rs each = (each_row R (sampled rs)).1 (λ t h. let (k, l, e) = in_sampled rs t h in rw e (each k l))
 
 -- A run begins with the sampled types alone.
 pub sound-start : (rs : List Row) (m : ℕ) → ((i : ℕ) → i < length rs → length (row_at rs i) ≡ m) → length (sampled rs) ≤ 128 → Sound rs m (start rs)
@@ -71,12 +71,12 @@ sound-start rs m each room = record {
 
 -- The nodes whose numbers pass a test.
 abbrev kept : (ℕ → Bool) → List Node → List Node
-kept p ts = gather (length ts) (λ i. only (p i) (nodeAt ts i))
+kept p ts = gather (length ts) (λ i. only (p i) (node_at ts i))
 
 kept_in : (p : ℕ → Bool) (ts : List Node) (t : Node) → In t (kept p ts) → In t ts
 kept_in p ts t h =
-    let (i, l, g) = (in-gather t (length ts) (λ i. only (p i) (nodeAt ts i))).0 h in
-    rw ((in-only t (p i) (nodeAt ts i)).0 g).1 (in-at ts i _ l)
+    let (i, l, g) = (in_gather t (length ts) (λ i. only (p i) (node_at ts i))).0 h in
+    rw ((in_only t (p i) (node_at ts i)).0 g).1 (in_at ts i _ l)
 
 rows-kept : (R : Row → Type 0) (p : ℕ → Bool) (ts : List Node) → EachRow R ts → EachRow R (kept p ts)
 rows-kept R p ts each = (each_row R (kept p ts)).1 (λ t h. (each_row R ts).0 each t (kept_in p ts t h))
@@ -88,16 +88,16 @@ keeps ls ts i = not (obsolete ts ls i)
 kept-first : (ls : List Link) (xs ys : List Node) → ((t : Node) → In t xs → inferred t.origin ≡ false) →
     kept (keeps ls (xs ++ ys)) (xs ++ ys) ≡ xs ++ kept (λ i. keeps ls (xs ++ ys) (length xs + i)) ys
 kept-first ls xs ys stay =
-    rw (length-append xs ys) (gather-add (length xs) (length ys) _) ∙
-    ap₂ ◌++◌ (gather_ext (length xs) _ (λ i. nodeAt xs i ∷ []) front ∙ gather-table _ _ ∙ table-getD xs _)
+    rw (length-append xs ys) (gather_add (length xs) (length ys) _) ∙
+    ap₂ ◌++◌ (gather_ext (length xs) _ (λ i. node_at xs i ∷ []) front ∙ gather-table _ _ ∙ table-get_or xs _)
     (gather_ext (length ys) _ _ (λ i h. ap (only (keeps ls (xs ++ ys) (length xs + i))) (get_or-append-add xs ys i _)))
   where
-    front : (i : ℕ) → i < length xs → only (keeps ls (xs ++ ys) i) (nodeAt (xs ++ ys) i) ≡ nodeAt xs i ∷ []
-    front i h = rw (get_or-append xs ys (record { row = []; origin = Sampled 0 0 }) i h, stay (nodeAt xs i) (in-at xs i _ h))
+    front : (i : ℕ) → i < length xs → only (keeps ls (xs ++ ys) i) (node_at (xs ++ ys) i) ≡ node_at xs i ∷ []
+    front i h = rw (get_or-append xs ys (record { row = []; origin = Sampled 0 0 }) i h, stay (node_at xs i) (in_at xs i _ h))
 
 -- A purge keeps the sampled types in place and takes some of the others.
-pub sound-once : (ls : List Link) (rs : List Row) (m : ℕ) (run : Run) → Sound rs m run → Sound rs m (purgeOnce ls run)
-unfolding purgeOnce
+pub sound-once : (ls : List Link) (rs : List Row) (m : ℕ) (run : Run) → Sound rs m run → Sound rs m (purge_once ls run)
+unfolding purge_once
 sound-once ls rs m run s =
     let stays : ℕ → Bool = λ i. keeps ls (sampled rs ++ s.later) (length (sampled rs) + i) in
     let ts = run.current in
@@ -119,7 +119,7 @@ rows_grown : (R : Row → Type 0) (run : Run) (xs : List Row) → ((x : Row) →
 rows_grown R run xs fresh each =
     (each_row R (run.current ++ map (new run) xs)).1
     (λ t h. ⊎_elim ((each_row R run.current).0 each t) (λ g. let (x, i, e) = (in_map t (new run) xs).0 g in rw e (fresh x i))
-    ((in-append t run.current (map (new run) xs)).0 h))
+    ((in_append t run.current (map (new run) xs)).0 h))
 
 -- A round with room for its rows, at least one, all of the same width and with no other states.
 pub sound-grown : (rs : List Row) (m : ℕ) (run : Run) (xs : List Row) → ((x : Row) → In x xs → (length x ≡ m) × AllHeld rs m x) →
@@ -128,7 +128,7 @@ unfolding grown
 sound-grown rs m run xs each some room s = record {
   later = s.later ++ map (new run) xs;
   current-is = rw s.current-is (append_assoc (sampled rs) s.later (map (new run) xs));
-  later-inferred = λ t h. ⊎_elim (older t) (newer t) ((in-append t s.later (map (new run) xs)).0 h);
+  later-inferred = λ t h. ⊎_elim (older t) (newer t) ((in_append t s.later (map (new run) xs)).0 h);
   widths = rows_grown (λ r. length r ≡ m) run xs (λ x h. (each x h).0) s.widths;
   states = rows_grown (AllHeld rs m) run xs (λ x h. (each x h).1) s.states;
   room = omega (arith, made-grown xs run);
@@ -138,12 +138,12 @@ sound-grown rs m run xs each some room s = record {
     older : (t : Node) → In t s.later → InferredBy (run.rounds + 1) t.origin
     older t h =
         let o = s.later-inferred t h in
-        record { round = o.round; origin-is = o.origin-is; not-zero = o.not-zero; not-later = omega (arith, o.not-later) }
+        record { round = o.round; origin_is = o.origin_is; not_zero = o.not_zero; not_later = omega (arith, o.not_later) }
 
     newer : (t : Node) → In t (map (new run) xs) → InferredBy (run.rounds + 1) t.origin
     newer t h =
         let (x, i, e) = (in_map t (new run) xs).0 h in
-        record { round = run.rounds + 1; origin-is = ap (λ (u : Node). u.origin) e; not-zero = omega arith; not-later = omega arith }
+        record { round = run.rounds + 1; origin_is = ap (λ (u : Node). u.origin) e; not_zero = omega arith; not_later = omega arith }
 
 -- A round of the run itself: its rows are median vectors of current rows.
 pub sound-round : (ws : List ℕ) (e : ℕ) (rs : List Row) (m : ℕ) (run : Run) → offers ws e run ≢ [] →
@@ -154,10 +154,10 @@ sound-round ws e rs m run c room s =
   where
     each : (x : Row) → In x (fresh ws e run) → (length x ≡ m) × AllHeld rs m x
     each x h =
-        let (o, i, f) = added-offered e (offers ws e run) x h in
+        let (o, i, f) = added_offered e (offers ws e run) x h in
         rw (← f) (
-          offer-width ws e run m s.widths o i,
-          λ c l. offer-states ws e run m s.widths (Held rs c) c l (λ k b. s.states k b c l) o i,
+          offer_width ws e run m s.widths o i,
+          λ c l. offer_states ws e run m s.widths (Held rs c) c l (λ k b. s.states k b c l) o i,
         )
 
 -- Kept by purges at any epsilon, so at phase I's and at phase II's.
@@ -171,7 +171,7 @@ sound-purge ws e rs m run = sound-purges (purges ws e run)
 pub sound-settled : {ws : List ℕ} {e : ℕ} (rs : List Row) (m : ℕ) {run : Run} → PhaseOne ws e (start rs) (settled run) →
     ((i : ℕ) → i < length rs → length (row_at rs i) ≡ m) → length (sampled rs) ≤ 128 → Sound rs m run
 sound-settled {ws} {e} rs m p each room =
-    phase-keeps (Sound rs m) (λ r. sound-once _ rs m r) (λ r s c l. sound-round ws e rs m r c l s) p (sound-start rs m each room)
+    phase_keeps (Sound rs m) (λ r. sound-once _ rs m r) (λ r s c l. sound-round ws e rs m r c l s) p (sound-start rs m each room)
 
 -- A property of every state of every row of rs holds of every state of every current row.
 pub sound-states : (P : ℕ → Type 0) {rs : List Row} {m : ℕ} {run : Run} → ((k c : ℕ) → k < length rs → c < m → P (get_or (row_at rs k) c 0)) →

@@ -1,10 +1,10 @@
 -- RULES 4.2 and 3.3: what a job is answered, and what all lent memory holds afterwards.
 use Rattle.std.specs.Prelude.{◌≡◌, cond, List, [], ◌++◌, ℕ, ◌-◌, eqb, length, replicate}
 use Rattle.rules.specs.Answers.{number, when◌refuse◌else◌, passed}
-use Rattle.rules.specs.Job.{Bytes, width, epsilon, weights, jobRows, checked}
-use Rattle.rules.specs.Lent.{Lent, areaShort}
-use Rattle.rules.specs.Types.{tooMany, row129}
-use Rattle.rules.specs.Run.{Outcome, settled, full, start, phaseOne, Network, phaseTwo, split}
+use Rattle.rules.specs.Job.{Bytes, width, epsilon, weights, job_rows, checked}
+use Rattle.rules.specs.Lent.{Lent, area_short}
+use Rattle.rules.specs.Types.{has_too_many, row129}
+use Rattle.rules.specs.Run.{Outcome, settled, full, start, phase_one, Network, phase_two, split}
 use Rattle.rules.specs.Result.{block}
 use Rattle.rules.specs.declared.Answer.{Answer}
 use Rattle.rules.specs.declared.Answer.TheVariants.{Done, Area, Types, Room, Split}
@@ -22,11 +22,11 @@ concluded net = cond (split net) (refused Split) (found net)
 -- RULES 4.3 (ROOM), 12.2: what becomes of a job whose Phase I has ended.
 abbrev pub ended : List ℕ → Outcome → Verdict
 ended ws (full round) = refused (Room round)
-ended ws (settled run) = concluded (phaseTwo ws run)
+ended ws (settled run) = concluded (phase_two ws run)
 
 -- RULES 12.1: how Phase I ends for a job.
 unfoldable pub outcome : Bytes → Outcome
-outcome job = phaseOne (weights job) (epsilon job) (start (jobRows job))
+outcome job = phase_one (weights job) (epsilon job) (start (job_rows job))
 
 -- RULES 4.2: this refusal, if it is one, or what comes next.
 infixr 1 ◌then◌
@@ -36,9 +36,9 @@ a then next = cond (eqb (number a) 0) next (refused a)
 -- RULES 4.2: all refusals in their order: 1; 2 to 7; 8; 9 and 10.
 unfoldable pub verdict : Lent → Bytes → Verdict
 verdict lent job =
-    (when areaShort lent refuse Area else passed) then
+    (when area_short lent refuse Area else passed) then
     checked job then
-    (when tooMany (jobRows job) refuse Types (row129 (jobRows job)) else passed) then
+    (when has_too_many (job_rows job) refuse Types (row129 (job_rows job)) else passed) then
     ended (weights job) (outcome job)
 
 -- RULES 3.3: the bytes written: those of the network's block, or none.
@@ -47,35 +47,35 @@ written m (refused a) = []
 written m (found net) = block m net
 
 -- RULES 4.1: the answer.
-abbrev pub answerTo : ℕ → Verdict → Answer
-answerTo m (refused a) = a
-answerTo m (found net) = Done (length (block m net))
+abbrev pub answer_to : ℕ → Verdict → Answer
+answer_to m (refused a) = a
+answer_to m (found net) = Done (length (block m net))
 
 unfoldable pub answer : Lent → Bytes → Answer
-answer lent job = answerTo (width job) (verdict lent job)
+answer lent job = answer_to (width job) (verdict lent job)
 
 -- RULES 3.2, 3.3: bytes, and zeros behind them up to a length.
 abbrev pub padded : ℕ → Bytes → Bytes
 padded n xs = xs ++ replicate (n - length xs) 0
 
 -- RULES 3.3: the result area afterwards.
-unfoldable pub resultAfter : Lent → Bytes → Bytes
-resultAfter lent job = padded lent.result (written (width job) (verdict lent job))
+unfoldable pub result_after : Lent → Bytes → Bytes
+result_after lent job = padded lent.result (written (width job) (verdict lent job))
 
 -- RULES 3.2, 3.3: the work areas afterwards.
-abbrev pub statesAfter : Lent → Bytes
-statesAfter lent = replicate lent.states 0
+abbrev pub states_after : Lent → Bytes
+states_after lent = replicate lent.states 0
 
-abbrev pub distancesAfter : Lent → List ℕ
-distancesAfter lent = replicate lent.distances 0
+abbrev pub distances_after : Lent → List ℕ
+distances_after lent = replicate lent.distances 0
 
-abbrev pub linksAfter : Lent → List Link
-linksAfter lent = replicate lent.links (record { low = 0; high = 0; length = 0 })
+abbrev pub links_after : Lent → List Link
+links_after lent = replicate lent.links (record { low = 0; high = 0; length = 0 })
 
 -- RULES 3.3, 3.4, 4.1: the whole of what a call must do. Answer and memory depend on the lengths lent and the job, and on nothing else.
 pub record Served (lent : Lent) (job : Bytes) (r : Answer) (result states : Bytes) (distances : List ℕ) (links : List Link) : Type 0 where
   pub answered : r ≡ answer lent job
-  pub result-left : result ≡ resultAfter lent job
-  pub states-left : states ≡ statesAfter lent
-  pub distances-left : distances ≡ distancesAfter lent
-  pub links-left : links ≡ linksAfter lent
+  pub result_left : result ≡ result_after lent job
+  pub states_left : states ≡ states_after lent
+  pub distances_left : distances ≡ distances_after lent
+  pub links_left : links ≡ links_after lent

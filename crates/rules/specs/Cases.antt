@@ -3,10 +3,10 @@
 use Rattle.std.specs.Prelude.{Bool, true, false, ◌&&◌, not, List, [], ◌∷◌, ◌++◌, ℕ, ◌+◌, ◌*◌, length, get_or}
 use Prim.Native.String.{String}
 use Rattle.graph.specs.Below.{gather}
-use Rattle.rules.specs.Job.{Bytes, width, weights, jobRows}
+use Rattle.rules.specs.Job.{Bytes, width, weights, job_rows}
 use Rattle.rules.specs.Lent.{least}
-use Rattle.rules.specs.Types.{sameRow}
-use Rattle.rules.specs.Links.{linksAt, linked}
+use Rattle.rules.specs.Types.{is_same_row}
+use Rattle.rules.specs.Links.{links_at, linked}
 use Rattle.rules.specs.Result.{words}
 use Rattle.rules.specs.Call.{written, verdict}
 use Rattle.rules.specs.Text.{text, printed}
@@ -34,9 +34,9 @@ same false b = not b
 
 -- RULES 16.1: a case holds, and so do all of a list.
 unfoldable pub holds : Case → Bool
-holds (b prints s) = sameRow (printed least b) (text s)
-holds (b writes xs) = sameRow (written (width b) (verdict least b)) xs
-holds (links b e i j x) = same x (linked (linksAt (weights b) e (jobRows b)) i j)
+holds (b prints s) = is_same_row (printed least b) (text s)
+holds (b writes xs) = is_same_row (written (width b) (verdict least b)) xs
+holds (links b e i j x) = same x (linked (links_at (weights b) e (job_rows b)) i j)
 
 unfoldable pub all_hold : List Case → Bool
 all_hold [] = true

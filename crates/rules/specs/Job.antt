@@ -1,7 +1,7 @@
 -- RULES 2: the job block. RULES 4.4: checks 2 to 7, for which the job alone is looked at.
 use Rattle.std.specs.Prelude.{Bool, not, ◌||◌, List, ℕ, ◌+◌, ◌*◌, ltb, eqb, length, get_or}
 use Rattle.graph.specs.Below.{table, first}
-use Rattle.rules.specs.Sizes.{mostRows, mostWidth, mostWeight, firstState, lastState, jobHead}
+use Rattle.rules.specs.Sizes.{most_rows, most_width, most_weight, first_state, last_state, job_head}
 use Rattle.rules.specs.Answers.{when◌refuse◌else◌, passed}
 use Rattle.rules.specs.declared.Answer.{Answer}
 use Rattle.rules.specs.declared.Answer.TheVariants.{Head, Rows, Width, Layout, Weight, State}
@@ -25,58 +25,58 @@ abbrev pub epsilon : Bytes → ℕ
 epsilon job = word job 4
 
 -- RULES 2.1: what the other three have to say.
-abbrev pub weightsOffset : ℕ
-weightsOffset = jobHead
+abbrev pub weights_offset : ℕ
+weights_offset = job_head
 
-abbrev pub statesOffset : Bytes → ℕ
-statesOffset job = jobHead + 2 * width job
+abbrev pub states_offset : Bytes → ℕ
+states_offset job = job_head + 2 * width job
 
-abbrev pub wholeLength : Bytes → ℕ
-wholeLength job = jobHead + 2 * width job + rows job * width job
+abbrev pub whole_length : Bytes → ℕ
+whole_length job = job_head + 2 * width job + rows job * width job
 
 -- RULES 2.2: the weight of a character, and all of them.
-abbrev pub weightAt : Bytes → ℕ → ℕ
-weightAt job c = word job (weightsOffset + 2 * c)
+abbrev pub weight_at : Bytes → ℕ → ℕ
+weight_at job c = word job (weights_offset + 2 * c)
 
 unfoldable pub weights : Bytes → List ℕ
-weights job = table (width job) (weightAt job)
+weights job = table (width job) (weight_at job)
 
 -- RULES 2.3, 4.6: a state by its number among all states.
-abbrev pub stateAt : Bytes → ℕ → ℕ
-stateAt job i = get_or job (statesOffset job + i) 0
+abbrev pub state_at : Bytes → ℕ → ℕ
+state_at job i = get_or job (states_offset job + i) 0
 
 -- RULES 1.3, 2.3: a row, and all rows.
 abbrev pub Row : Type 0
 Row = List ℕ
 
-unfoldable pub jobRow : Bytes → ℕ → Row
-jobRow job k = table (width job) (λ c. stateAt job (k * width job + c))
+unfoldable pub job_row : Bytes → ℕ → Row
+job_row job k = table (width job) (λ c. state_at job (k * width job + c))
 
-unfoldable pub jobRows : Bytes → List Row
-jobRows job = table (rows job) (jobRow job)
+unfoldable pub job_rows : Bytes → List Row
+job_rows job = table (rows job) (job_row job)
 
 -- RULES 4.3: a number lies outside its bounds.
 abbrev pub outside : ℕ → ℕ → ℕ → Bool
 outside low high x = ltb x low || ltb high x
 
 -- RULES 4.3 (WEIGHT): the first weight outside, or m where there is none.
-unfoldable pub badWeight : Bytes → ℕ
-badWeight job = first (width job) (λ c. outside 1 mostWeight (weightAt job c))
+unfoldable pub bad_weight : Bytes → ℕ
+bad_weight job = first (width job) (λ c. outside 1 most_weight (weight_at job c))
 
 -- RULES 4.6: the first byte of the rows that is no state, or nm where there is none.
-unfoldable pub badState : Bytes → ℕ
-badState job = first (rows job * width job) (λ i. outside firstState lastState (stateAt job i))
+unfoldable pub bad_state : Bytes → ℕ
+bad_state job = first (rows job * width job) (λ i. outside first_state last_state (state_at job i))
 
 -- RULES 4.3 to 4.6: checks 2 to 7, each tried if those above it let the job pass.
 unfoldable pub checked : Bytes → Answer
 checked job =
-    when ltb (length job) jobHead refuse Head else
-    when outside 1 mostRows (rows job) refuse Rows else
-    when outside 1 mostWidth (width job) refuse Width else
-    when not (eqb (word job 6) weightsOffset) refuse Layout 6 else
-    when not (eqb (word job 8) (statesOffset job)) refuse Layout 8 else
-    when not (eqb (word job 10) (wholeLength job)) refuse Layout 10 else
-    when not (eqb (length job) (wholeLength job)) refuse Layout 12 else
-    when ltb (badWeight job) (width job) refuse Weight (badWeight job) else
-    when ltb (badState job) (rows job * width job) refuse State (badState job) else
+    when ltb (length job) job_head refuse Head else
+    when outside 1 most_rows (rows job) refuse Rows else
+    when outside 1 most_width (width job) refuse Width else
+    when not (eqb (word job 6) weights_offset) refuse Layout 6 else
+    when not (eqb (word job 8) (states_offset job)) refuse Layout 8 else
+    when not (eqb (word job 10) (whole_length job)) refuse Layout 10 else
+    when not (eqb (length job) (whole_length job)) refuse Layout 12 else
+    when ltb (bad_weight job) (width job) refuse Weight (bad_weight job) else
+    when ltb (bad_state job) (rows job * width job) refuse State (bad_state job) else
     passed

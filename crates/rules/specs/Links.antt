@@ -12,8 +12,8 @@ abbrev pub FeasibleLink : List ℕ → ℕ → List Row → ℕ → ℕ → Type
 FeasibleLink ws e rs i j = Feasible (length rs) (apart ws rs) e i j
 
 -- RULES 7.3, 7.4: the list of all links, found by a test that computes. proofs/Links.antt shows that they are those of 7.2.
-unfoldable pub linksAt : List ℕ → ℕ → List Row → List Link
-linksAt ws e rs =
+unfoldable pub links_at : List ℕ → ℕ → List Row → List Link
+links_at ws e rs =
     let n = length rs in
     let g = spans n (apart ws rs) in
     gather n (λ i. gather n (λ j. only (ltb i j && feasible (apart ws rs) g e i j) (record { low = i; high = j; length = apart ws rs i j })))
@@ -35,12 +35,12 @@ names l i = eqb l.low i || eqb l.high i
 abbrev pub linked : List Link → ℕ → ℕ → Bool
 linked ls i j = some (length ls) (λ k. names (link_at ls k) i && names (link_at ls k) j)
 
-abbrev pub linkCount : List Link → ℕ → ℕ
-linkCount ls i = count (length ls) (λ k. names (link_at ls k) i)
+abbrev pub link_count : List Link → ℕ → ℕ
+link_count ls i = count (length ls) (λ k. names (link_at ls k) i)
 
 -- RULES 4.8: do the links join all of n types? A pair that has no link is 1 apart, any other 0; joined types have spans of 0 only.
 abbrev pub unlinked : List Link → ℕ → ℕ → ℕ
 unlinked ls i j = cond (eqb i j || linked ls i j) 0 1
 
-unfoldable pub joinAll : ℕ → List Link → Bool
-joinAll n ls = let g = spans n (unlinked ls) in every n (λ i. every n (λ j. eqb (cell g i j) 0))
+unfoldable pub join_all : ℕ → List Link → Bool
+join_all n ls = let g = spans n (unlinked ls) in every n (λ i. every n (λ j. eqb (cell g i j) 0))

@@ -7,13 +7,13 @@ use Rattle.rules.specs.Links.{linked}
 use Rattle.rules.specs.declared.Link.{Link}
 
 -- RULES 9.1: two of three hold, or all three.
-abbrev pub twoOf : Bool → Bool → Bool → Bool
-twoOf true b c = b || c
-twoOf false b c = b && c
+abbrev pub two_of : Bool → Bool → Bool → Bool
+two_of true b c = b || c
+two_of false b c = b && c
 
 -- RULES 9.1: a triplet. Its numbers ascend, so that each one is met once.
 abbrev pub triplet : List Link → ℕ → ℕ → ℕ → Bool
-triplet ls u v w = (ltb u v && ltb v w) && twoOf (linked ls u v) (linked ls u w) (linked ls v w)
+triplet ls u v w = (ltb u v && ltb v w) && two_of (linked ls u v) (linked ls u w) (linked ls v w)
 
 -- RULES 10.1, 10.2: the state in one character; x is the state to take if no two agree.
 abbrev pub common : ℕ → ℕ → ℕ → ℕ → ℕ

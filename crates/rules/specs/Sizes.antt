@@ -2,49 +2,49 @@
 use Rattle.std.specs.Prelude.{ℕ}
 
 -- RULES 2.1: the most rows of a job, and their most characters.
-abbrev pub mostRows : ℕ
-mostRows = 256
+abbrev pub most_rows : ℕ
+most_rows = 256
 
-abbrev pub mostWidth : ℕ
-mostWidth = 64
+abbrev pub most_width : ℕ
+most_width = 64
 
 -- RULES 2.2: the largest weight. RULES 1.4: the first and the last state.
-abbrev pub mostWeight : ℕ
-mostWeight = 1000
+abbrev pub most_weight : ℕ
+most_weight = 1000
 
-abbrev pub firstState : ℕ
-firstState = 33
+abbrev pub first_state : ℕ
+first_state = 33
 
-abbrev pub lastState : ℕ
-lastState = 126
+abbrev pub last_state : ℕ
+last_state = 126
 
 -- RULES 2.1: the bytes of a job's header. RULES 2.4: those of the largest job.
-abbrev pub jobHead : ℕ
-jobHead = 12
+abbrev pub job_head : ℕ
+job_head = 12
 
-abbrev pub largestJob : ℕ
-largestJob = 16524
+abbrev pub largest_job : ℕ
+largest_job = 16524
 
 -- RULES 12.2: the most types ever made, and the most links between them.
-abbrev pub mostTypes : ℕ
-mostTypes = 128
+abbrev pub most_types : ℕ
+most_types = 128
 
-abbrev pub mostLinks : ℕ
-mostLinks = 8128
+abbrev pub most_links : ℕ
+most_links = 8128
 
 -- The bytes in which a row is stored, and the cells of a line of the distance area.
-abbrev pub rowSize : ℕ
-rowSize = 64
+abbrev pub row_size : ℕ
+row_size = 64
 
-abbrev pub lineSize : ℕ
-lineSize = 128
+abbrev pub line_size : ℕ
+line_size = 128
 
 -- RULES 3.1: the least lengths of the result, the state area and the distance area. That of the link table is mostLinks.
-abbrev pub resultArea : ℕ
-resultArea = 57680
+abbrev pub result_area : ℕ
+result_area = 57680
 
-abbrev pub stateArea : ℕ
-stateArea = 8192
+abbrev pub state_area : ℕ
+state_area = 8192
 
-abbrev pub distanceArea : ℕ
-distanceArea = 16384
+abbrev pub distance_area : ℕ
+distance_area = 16384

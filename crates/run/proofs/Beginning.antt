@@ -6,16 +6,16 @@ use Prim.Native.Nat.{ℕ, ◌≤◌}
 use native.Mathlib.Omega.{arith}
 use lib.ListN.{length}
 use Rattle.rules.specs.Answers.{number}
-use Rattle.rules.specs.Job.{Bytes, width, epsilon, weights, jobRows, checked}
-use Rattle.rules.specs.Types.{sampled, tooMany}
+use Rattle.rules.specs.Job.{Bytes, width, epsilon, weights, job_rows, checked}
+use Rattle.rules.specs.Types.{sampled, has_too_many}
 use Rattle.rules.specs.Purge.{Run}
 use Rattle.rules.specs.Round.{made}
 use Rattle.rules.specs.Run.{Outcome, settled, full, start, PhaseOne}
 use Rattle.rules.specs.Call.{outcome, padded}
 use Rattle.rules.proofs.Job.{passed_is, length-weights, weight-within}
-use Rattle.rules.proofs.Ends.{phase-one}
+use Rattle.rules.proofs.Ends.{phase_one_is}
 use Rattle.types.proofs.State.{length-kinds}
-use Rattle.purge.specs.State.{epsilonOf}
+use Rattle.purge.specs.State.{epsilon_of}
 use Rattle.round.specs.Rounded.{Carries}
 use Rattle.run.specs.Begun.{First, Begun}
 use Rattle.run.specs.declared.start.Ended.{Ended}
@@ -27,10 +27,10 @@ use Rattle.run.proofs.Drawn.{network-told}
 
 module _ {job states₀ : Bytes} {lent cells : ℕ} {area₀ : List ℕ} {first : Ended} (b : Begun job lent cells states₀ area₀ first) where
   -- There are too many types, and nothing is left.
-  pub ran-types : tooMany (jobRows job) ≡ true → Ran job lent cells states₀ area₀ first
+  pub ran-types : has_too_many (job_rows job) ≡ true → Ran job lent cells states₀ area₀ first
   ran-types many = record {
-    states-size = b.states-size;
-    area-size = b.area-size;
+    states_size = b.states_size;
+    area_size = b.area_size;
     answered = b.answered ∙ rw many refl;
     refuses = λ n. rw many (b.refuses many);
     network = λ z. absurd (omega (arith, rw many at z));
@@ -38,62 +38,62 @@ module _ {job states₀ : Bytes} {lent cells : ℕ} {area₀ : List ℕ} {first 
   }
 
   -- Else memory carries the run that begins with the sampled types, and nothing can go out of bounds.
-  module _ (ok : number (checked job) ≡ 0) (one : tooMany (jobRows job) ≡ false) {ws : List ℕ} (weigh : ws ≡ padded 64 (weights job)) where
+  module _ (ok : number (checked job) ≡ 0) (one : has_too_many (job_rows job) ≡ false) {ws : List ℕ} (weigh : ws ≡ padded 64 (weights job)) where
     begins : First job cells states₀ area₀ first
     begins = b.begins one
 
-    carried : Carries ws (width job) (weights job) (start (jobRows job)) states₀ area₀ first.held
+    carried : Carries ws (width job) (weights job) (start (job_rows job)) states₀ area₀ first.held
     carried = record {
-      weights-are = weigh;
+      weights_are = weigh;
       as_wide = length-weights job;
-      each-weighs = λ k h. (weight-within job (passed_is job ok) k h).at_least;
+      each_weighs = λ k h. (weight-within job (passed_is job ok) k h).at_least;
       holds = begins.holds;
     }
 
     pub safe-first : epsilon job ≤ 65535 → 8192 ≤ lent → 16384 ≤ cells → Safe ws states₀ area₀ first.held
     safe-first fits room enough =
         let holds = begins.holds in
-        let (within, few, epsilon-fits) = begun-small b fits in
+        let (within, few, epsilon_fits) = begun-small b fits in
         record {
           weighed = rw weigh (job-weighed job ok);
           within = within;
           few = few;
-          rounds-few = omega (arith, holds.rounds-are);
-          kinds-size = rw holds.kinds-are (length-kinds (sampled (jobRows job)));
-          epsilon-fits = epsilon-fits;
-          states-fit = rw b.states-size room;
-          cells_fit = rw b.area-size enough;
+          rounds_few = omega (arith, holds.rounds_are);
+          kinds_size = rw holds.kinds_are (length-kinds (sampled (job_rows job)));
+          epsilon_fits = epsilon_fits;
+          states_fit = rw b.states_size room;
+          cells_fit = rw b.area_size enough;
         }
 
     -- Both phases go on from there.
     module _ {states : Bytes} {area : List ℕ} {r : Ended} (o : PhasesOver ws states₀ area₀ first.held states area r) where
-      few-made : length (made (start (jobRows job))) ≤ 128
-      few-made = omega (arith, begins.few, begins.holds.made-are)
+      few-made : length (made (start (job_rows job))) ≤ 128
+      few-made = omega (arith, begins.few, begins.holds.made_are)
 
-      runs : PhaseOne (weights job) (epsilonOf first.held.state.phase) (start (jobRows job)) (outcome job)
+      runs : PhaseOne (weights job) (epsilon_of first.held.state.phase) (start (job_rows job)) (outcome job)
       unfolding outcome
-      runs = rw begins.phase-is (phase-one (weights job) (epsilon job) (start (jobRows job)) few-made)
+      runs = rw begins.phase_is (phase_one_is (weights job) (epsilon job) (start (job_rows job)) few-made)
 
-      pub ran-phases : Ran job lent cells states area r
-      ran-phases = rw (b.states-size, b.area-size) at (go (outcome job) refl)
+      pub ran_phases : Ran job lent cells states area r
+      ran_phases = rw (b.states_size, b.area_size) at (go (outcome job) refl)
         where
           go : (end : Outcome) → outcome job ≡ end → Ran job (length states₀) (length area₀) states area r
           go (full round) e =
-              let (refused, cleared) = o.crowds (width job) (weights job) (start (jobRows job)) round carried (rw e at runs) in
+              let (refused, cleared) = o.crowds (width job) (weights job) (start (job_rows job)) round carried (rw e at runs) in
               record {
-                states-size = o.states-size;
-                area-size = o.area-size;
+                states_size = o.states_size;
+                area_size = o.area_size;
                 answered = rw (one, e) (ap (λ (x : Ended). x.answer) refused);
                 refuses = λ n. rw (one, e) (refused, cleared);
                 network = λ z. absurd (omega (arith, rw (one, e) at z));
                 kept = λ z. absurd (omega (arith, rw (one, e) at z));
               }
           go (settled end) e =
-              let left = o.settles (width job) (weights job) (start (jobRows job)) end carried (rw e at runs) in
+              let left = o.settles (width job) (weights job) (start (job_rows job)) end carried (rw e at runs) in
               let same : (other : Run) → outcome job ≡ settled other → end ≡ other = λ other f. ap (run_in end) (sym e ∙ f) in
               record {
-                states-size = o.states-size;
-                area-size = o.area-size;
+                states_size = o.states_size;
+                area_size = o.area_size;
                 answered = rw (one, e) left.answered;
                 refuses = λ n. absurd (n (rw (one, e) refl));
                 network = λ z other f. rw (← same other f) (network-told end left.holds left.tells (types-few left));

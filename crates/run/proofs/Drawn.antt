@@ -14,14 +14,14 @@ use Rattle.graph.proofs.Spans.{feasible-is}
 use Rattle.rules.specs.Job.{Bytes, Row}
 use Rattle.rules.specs.Types.{rows_of}
 use Rattle.rules.specs.Distance.{apart}
-use Rattle.rules.specs.Links.{linksAt}
+use Rattle.rules.specs.Links.{links_at}
 use Rattle.rules.specs.Purge.{Run, purge}
-use Rattle.rules.specs.Run.{phaseTwo}
+use Rattle.rules.specs.Run.{phase_two}
 use Rattle.rules.specs.declared.Link.{Link}
 use Rattle.distances.specs.Area.{cell_at, Measures}
 use Rattle.links.specs.Marks.{marked, TellsLinks}
 use Rattle.purge.specs.Holds.{Holds}
-use Rattle.purge.specs.Network.{linksIn, networkIn}
+use Rattle.purge.specs.Network.{links_in, network_in}
 use Rattle.purge.specs.declared.state.Held.{Held}
 use Rattle.purge.proofs.Back.{current-back}
 use Rattle.purge.proofs.Told.{rows-count}
@@ -37,8 +37,8 @@ module _ (ws : List ℕ) (e : ℕ) (rs : List Row) {area : List ℕ} (measures :
       rw (ne_eqb i j (omega arith), lo, up) (same_tests (eqb (cell_at area j i) 1) _ (λ t. is.1 (at.0 (eqb-true _ 1 t))) (λ t. eq-eqb _ 1 (at.1 (is.0 t))))
 
   -- The links that the area tells are the rules' list of them.
-  pub links-told : linksIn (length rs) area ≡ linksAt ws e rs
-  unfolding linksIn linksAt
+  pub links-told : links_in (length rs) area ≡ links_at ws e rs
+  unfolding links_in links_at
   links-told = gather_ext n _ _ (λ i hi. gather_ext n _ _ (λ j hj. pair i j hj (ltb i j) refl))
     where
       n : ℕ
@@ -57,10 +57,10 @@ module _ (ws : List ℕ) (e : ℕ) (rs : List Row) {area : List ℕ} (measures :
 module _ {m : ℕ} {ws : List ℕ} (end : Run) {states : Bytes} {area : List ℕ} {held : Held}
     (holds : Holds m ws (purge ws 0 end) states area held) (tells : TellsLinks ws 0 (rows_of (purge ws 0 end).current) area)
     (few : held.state.types ≤ 128) where
-  pub network-told : networkIn m states area held ≡ phaseTwo ws end
-  unfolding networkIn phaseTwo
+  pub network-told : network_in m states area held ≡ phase_two ws end
+  unfolding network_in phase_two
   network-told =
       let types = current-back holds few in
-      let links = rw (rows-count holds few) at (links-told ws 0 (rows_of (purge ws 0 end).current) holds.distances-are tells) in
-      let rounds = holds.rounds-are in
+      let links = rw (rows-count holds few) at (links-told ws 0 (rows_of (purge ws 0 end).current) holds.distances_are tells) in
+      let rounds = holds.rounds_are in
       λ i. record { types = types i; links = links i; rounds = rounds i }

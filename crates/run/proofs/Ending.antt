@@ -10,89 +10,89 @@ use Rattle.rules.specs.Purge.{Run, purge}
 use Rattle.rules.specs.Run.{Outcome, settled, full}
 use Rattle.rules.specs.declared.Answer.TheVariants.{Done, Room}
 use Rattle.rules.proofs.Keeps.{made-count}
-use Rattle.rules.proofs.Ends.{phase-same}
-use Rattle.purge.specs.State.{secondPhase}
+use Rattle.rules.proofs.Ends.{phase_same}
+use Rattle.purge.specs.State.{second_phase}
 use Rattle.purge.specs.Holds.{Holds, Purged}
 use Rattle.purge.specs.declared.state.Held.{Held}
 use Rattle.round.specs.declared.Turn.{Turn}
-use Rattle.run.specs.Begun.{refusedWith}
+use Rattle.run.specs.Begun.{refused_with}
 use Rattle.run.specs.declared.start.Ended.{Ended}
 use Rattle.run.specs.Phases.{PhaseOneOver, NetworkHeld, PhasesOver}
 
 -- An outcome is one of two: a round that had no room, by its number, or a run.
-abbrev had-no-room : Outcome → Bool
-had-no-room (settled run) = false
-had-no-room (full round) = true
+abbrev had_no_room : Outcome → Bool
+had_no_room (settled run) = false
+had_no_room (full round) = true
 
-abbrev round-in : Outcome → ℕ
-round-in (settled run) = 0
-round-in (full round) = round
+abbrev round_in : Outcome → ℕ
+round_in (settled run) = 0
+round_in (full round) = round
 
 abbrev pub run_in : Run → Outcome → Run
 run_in other (settled run) = run
 run_in other (full round) = other
 
 -- The state with which Phase II begins.
-abbrev pub inPhaseTwo : Held → Held
-inPhaseTwo held = record { state = secondPhase held.state; kinds = held.kinds }
+abbrev pub in_phase_two : Held → Held
+in_phase_two held = record { state = second_phase held.state; kinds = held.kinds }
 
 -- The phase is nothing that memory holds.
 second_holds : {m : ℕ} {ws : List ℕ} {run : Run} {states : Bytes} {area : List ℕ} {held : Held} →
-    Holds m ws run states area held → Holds m ws run states area (inPhaseTwo held)
+    Holds m ws run states area held → Holds m ws run states area (in_phase_two held)
 second_holds h = record {
   narrow = h.narrow;
   wide = h.wide;
   types_are = h.types_are;
-  made-are = h.made-are;
-  rounds-are = h.rounds-are;
-  kinds-are = h.kinds-are;
-  states-are = h.states-are;
-  distances-are = h.distances-are;
-  rest-zero = h.rest-zero;
+  made_are = h.made_are;
+  rounds_are = h.rounds_are;
+  kinds_are = h.kinds_are;
+  states_are = h.states_are;
+  distances_are = h.distances_are;
+  rest_zero = h.rest_zero;
 }
 
 module _ {weights : List ℕ} {states states' states'' : Bytes} {area area' area'' : List ℕ} {held : Held} {turn : Turn}
     (over : PhaseOneOver weights states area held states' area' turn) where
   -- A round had no room: both areas are cleared.
   pub ended-full : turn.full ≡ true → states'' ≡ replicate (length states') 0 → area'' ≡ replicate (length area') 0 →
-      PhasesOver weights states area held states'' area'' (refusedWith (Room (turn.held.state.rounds + 1)))
+      PhasesOver weights states area held states'' area'' (refused_with (Room (turn.held.state.rounds + 1)))
   ended-full crowd zeros zeros' = record {
-    states-size = ap length zeros ∙ length-replicate (length states') 0 ∙ over.states-size;
-    area-size = ap length zeros' ∙ length-replicate (length area') 0 ∙ over.area-size;
-    settles = λ m ws run end c p. absurd (false≢true (ap had-no-room (phase-same p (over.crowds m ws run c crowd))));
+    states_size = ap length zeros ∙ length-replicate (length states') 0 ∙ over.states_size;
+    area_size = ap length zeros' ∙ length-replicate (length area') 0 ∙ over.area_size;
+    settles = λ m ws run end c p. absurd (false≢true (ap had_no_room (phase_same p (over.crowds m ws run c crowd))));
     crowds = λ m ws run round c p. (
-      ap (λ n. refusedWith (Room n)) (ap round-in (phase-same (over.crowds m ws run c crowd) p)),
+      ap (λ n. refused_with (Room n)) (ap round_in (phase_same (over.crowds m ws run c crowd) p)),
       record {
-        states-are = zeros ∙ ap (λ n. replicate n 0) over.states-size;
-        area-is = zeros' ∙ ap (λ n. replicate n 0) over.area-size;
+        states_are = zeros ∙ ap (λ n. replicate n 0) over.states_size;
+        area_is = zeros' ∙ ap (λ n. replicate n 0) over.area_size;
       },
     );
   }
 
   -- Phase I settled: Phase II purges at epsilon 0.
-  pub ended-kept : {kept : Held} → turn.full ≡ false → Purged states' area' (inPhaseTwo turn.held) states'' area'' kept →
+  pub ended-kept : {kept : Held} → turn.full ≡ false → Purged states' area' (in_phase_two turn.held) states'' area'' kept →
       PhasesOver weights states area held states'' area'' (record { answer = Done 0; held = kept })
   ended-kept {kept} still p = record {
-    states-size = p.states-size ∙ over.states-size;
-    area-size = p.area-size ∙ over.area-size;
+    states_size = p.states_size ∙ over.states_size;
+    area_size = p.area_size ∙ over.area_size;
     settles = λ m ws run end c one. let s = over.settles m ws run c still in
-        let same : s.end ≡ end = ap (run_in end) (phase-same s.phase-one one) in
+        let same : s.end ≡ end = ap (run_in end) (phase_same s.phase_one_is one) in
         let holds = second_holds s.carries.holds in
         record {
           answered = refl;
           holds = rw same at (p.holds m ws s.end holds);
           tells = rw same at (p.tells m ws s.end holds);
-          few = omega (arith, p.made-stays, over.safe.few);
-          second = p.phase-stays;
+          few = omega (arith, p.made_stays, over.safe.few);
+          second = p.phase_stays;
         };
     crowds = λ m ws run round c one. let s = over.settles m ws run c still in
-        absurd (false≢true (ap had-no-room (phase-same s.phase-one one)));
+        absurd (false≢true (ap had_no_room (phase_same s.phase_one_is one)));
   }
 
 -- What is kept are at most 128 types, as at most 128 were ever made.
 module _ {m : ℕ} {ws : List ℕ} {end : Run} {states : Bytes} {area : List ℕ} {r : Ended} (kept : NetworkHeld m ws end states area r) where
   pub kept-few : length (purge ws 0 end).current ≤ 128
-  kept-few = omega (arith, kept.few, kept.holds.made-are, made-count (purge ws 0 end))
+  kept-few = omega (arith, kept.few, kept.holds.made_are, made-count (purge ws 0 end))
 
   pub types-few : r.held.state.types ≤ 128
   types-few = rw kept.holds.types_are kept-few

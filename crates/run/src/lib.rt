@@ -5,7 +5,7 @@
 pub mod start;
 
 ghost use Rattle.std.specs.Prelude.{◌≡◌, ◌≤◌, length};
-ghost use Rattle.rules.specs.Sizes.{stateArea, distanceArea};
+ghost use Rattle.rules.specs.Sizes.{state_area, distance_area};
 ghost use Rattle.rules.specs.Answers.{number};
 ghost use Rattle.rules.specs.Job.{checked};
 ghost use Rattle.run.specs.Phases.{Safe, Turned, PhaseOneOver, PhasesOver};
@@ -69,7 +69,7 @@ fn phases(states: &mut [u8], area: &mut [u16], weights: &[u16], held: Held) -> E
 
 // The run of a job that passed checks 2 to 7.
 pub fn run(job: &[u8], states: &mut [u8], area: &mut [u16]) -> Ended
-    requires { (number (checked job.now) ≡ 0) × (stateArea ≤ length states.old) × (distanceArea ≤ length area.old) }
+    requires { (number (checked job.now) ≡ 0) × (state_area ≤ length states.old) × (distance_area ≤ length area.old) }
     ensures { Ran job.now (length states.old) (length area.old) states.new area.new result }
 {
     let header = header_of(job);

@@ -2,11 +2,11 @@
 // both areas from their first cell to their last; the job is only read.
 
 ghost use Rattle.std.specs.Prelude.{◌≡◌, ◌≤◌, length};
-ghost use Rattle.rules.specs.Sizes.{mostWidth, stateArea, distanceArea};
+ghost use Rattle.rules.specs.Sizes.{most_width, state_area, distance_area};
 ghost use Rattle.rules.specs.Answers.{number};
-ghost use Rattle.rules.specs.Job.{weights as weightsOf, checked};
+ghost use Rattle.rules.specs.Job.{weights as weights_of, checked};
 ghost use Rattle.rules.specs.Call.{padded};
-ghost use Rattle.run.specs.Begun.{refusedWith, Begun};
+ghost use Rattle.run.specs.Begun.{refused_with, Begun};
 
 use distances::measure;
 use job::header_of;
@@ -25,7 +25,7 @@ pub struct Ended {
 
 // A refused run leaves nothing.
 pub fn refused(answer: Answer) -> Ended
-    ensures { result ≡ refusedWith answer }
+    ensures { result ≡ refused_with answer }
 {
     let kinds = no_kinds();
     Ended {
@@ -44,7 +44,7 @@ pub fn refused(answer: Answer) -> Ended
 
 // The run of a job that passed checks 2 to 7 begins, in Phase I and before its first link; or the refusal TYPES.
 pub fn begin(job: &[u8], states: &mut [u8], area: &mut [u16], weights: &[u16]) -> Ended
-    requires { (number (checked job.now) ≡ 0) × (weights.now ≡ padded mostWidth (weightsOf job.now)) × (stateArea ≤ length states.old) × (distanceArea ≤ length area.old) }
+    requires { (number (checked job.now) ≡ 0) × (weights.now ≡ padded most_width (weights_of job.now)) × (state_area ≤ length states.old) × (distance_area ≤ length area.old) }
     ensures { Begun job.now (length states.old) (length area.old) states.new area.new result }
 {
     clear_bytes(states);

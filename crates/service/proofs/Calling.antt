@@ -72,14 +72,14 @@ module _ (x : Areas) where
   module _ {M : Type 1} {𝓤 : Ura M} {K : Type 0} (𝓛 : Logic 𝓤) {Γ : List (Item 𝓤)} where
     open 𝓛 use {H}
 
-    pub calls-call : (mem : Memory → SProp 𝓤) (run : Routine → Fun 𝓤)
+    pub calls_call : (mem : Memory → SProp 𝓤) (run : Routine → Fun 𝓤)
         {E : Env 𝓤 H} {C : Calls 𝓤 H} {Λ : Loops 𝓤 H} {Q : Post 𝓤 H} {xs : List Operand} {d : Place} {rest : Body}
         → FmC 𝓤 H 𝓛.laws C → Triple 𝓤 (C call-def.name) (Call 𝓛 mem run) → K
         → Opds K 𝓛 (raw ((Call 𝓛 mem run).pre ((lfts x, shares x, tt, refs x, vals x), tt)) ∷ Γ) E xs
         (value job ∷ value result ∷ value states ∷ value distances ∷ value links ∷ [])
         → ((w : Val) (z : Leaves) → Is Ans.the_row z.answer (w ∷ []) → Seq K 𝓛 (After z Γ) (lands C Λ E d w rest Q))
         → Seq K 𝓛 (Before Γ) (runs C Λ E (seq (call call-def.name xs d) rest) Q)
-    calls-call mem run fm known t os k =
+    calls_call mem run fm known t os k =
         split t $ move t (2 ∷ []) $ split t $ move t (4 ∷ []) $ split t $ move t (6 ∷ []) $ split t $ move t (8 ∷ []) $ split t $
         -- [links; its token; distances; its token; states; its token; result; its token; job; its token]
         move t (9 ∷ 7 ∷ 5 ∷ 3 ∷ 1 ∷ 8 ∷ 6 ∷ 4 ∷ 2 ∷ 0 ∷ []) $ calls-told 𝓛 fm call'.ended (call'.clauses 𝓛 mem run) known (lfts x) (shares x) tt (refs x) (vals x) tt t

@@ -13,14 +13,14 @@ use borrow.Author.Count.{below_more}
 use borrow.Author.Tests.{eqb-true, eq-eqb, ne_eqb}
 use Rattle.graph.specs.Below.{count, some}
 use Rattle.graph.specs.Spans.{cell, spans}
-use Rattle.graph.proofs.Below.{sum-ext, sum-plus, count-one, count-pos, some-true}
-use Rattle.graph.proofs.Growing.{span-sym, span-step, span-by}
+use Rattle.graph.proofs.Below.{sum_ext, sum_plus, count-one, count_pos, some_true}
+use Rattle.graph.proofs.Growing.{span_sym, span-step, span-by}
 use Rattle.spans.specs.Tree.{between}
 use Rattle.spans.specs.Growth.{longest}
 use Rattle.spans.proofs.Stretch.{longest-none, longest-by, longest-more, longest-same}
 
-pub between-sym : (area : List ℕ) (i j : ℕ) → between area i j ≡ between area j i
-between-sym area i j = ap (λ p. get_or area p 0) (omega arith)
+pub between_sym : (area : List ℕ) (i j : ℕ) → between area i j ≡ between area j i
+between_sym area i j = ap (λ p. get_or area p 0) (omega arith)
 
 -- Type u is none of the first types of the order.
 abbrev pub Out : (ℕ → ℕ) → ℕ → ℕ → Type 0
@@ -54,12 +54,12 @@ module _ {n size : ℕ} {o : ℕ → ℕ} {inside : List ℕ} (l : Listed n size
   -- While types are left, one is outside; and then none.
   pub some_left : size < n → (u : ℕ) × (u < n) × (get_or inside u 0 ≡ 0)
   some_left h =
-      let (u, hu, e) = (count-pos n (λ x. eqb (get_or inside x 0) 0)).0 (omega (arith, l.counted)) in
+      let (u, hu, e) = (count_pos n (λ x. eqb (get_or inside x 0) 0)).0 (omega (arith, l.counted)) in
       (u, hu, eqb-true _ 0 e)
 
   pub none_left : n ≤ size → (u : ℕ) → u < n → (k : ℕ) × (k < size) × (o k ≡ u)
   none_left h u hu =
-      ⊎_elim (λ e. absurd (omega (arith, l.counted, (count-pos n (λ x. eqb (get_or inside x 0) 0)).1 (u, hu, eq-eqb _ 0 e)))) (λ k. k)
+      ⊎_elim (λ e. absurd (omega (arith, l.counted, (count_pos n (λ x. eqb (get_or inside x 0) 0)).1 (u, hu, eq-eqb _ 0 e)))) (λ k. k)
       (l.left u hu)
 
 -- One fewer passes a test where one that passed does no more.
@@ -74,7 +74,7 @@ one_fewer n p q v h t f same =
       | no ne ↦ rw (ne_eqb u v ne, same u ne) (omega arith)
     ]
     in
-    omega (arith, one, sum-plus n (λ u. cond (q u) 1 0) (λ u. cond (is u) 1 0), sum-ext n _ _ each)
+    omega (arith, one, sum_plus n (λ u. cond (q u) 1 0) (λ u. cond (is u) 1 0), sum_ext n _ _ each)
 
 -- Type v, outside, joins the order.
 module _ {n size v : ℕ} {o o' : ℕ → ℕ} {inside : List ℕ} (long : length inside ≡ 128) (few : n ≤ 128) (hv : v < n)
@@ -123,9 +123,9 @@ module _ {size step : ℕ} {w w' : ℕ → ℕ} (taken : (k : ℕ) → k < size 
 abbrev In : (ℕ → ℕ) → ℕ → ℕ → Type 0
 In o size u = (k : ℕ) × (k < size) × (o k ≡ u)
 
-in-or-out : (o : ℕ → ℕ) (size u : ℕ) → Dec (In o size u)
-in-or-out o size u =
-    let f = some-true size (λ k. eqb (o k) u) in
+in_or_out : (o : ℕ → ℕ) (size u : ℕ) → Dec (In o size u)
+in_or_out o size u =
+    let f = some_true size (λ k. eqb (o k) u) in
     map_dec (λ e. let (k, h, t) = f.0 e in (k, h, eqb-true (o k) u t)) (λ (k, h, e). f.1 (k, h, eq-eqb (o k) u e))
     (true? (some size (λ k. eqb (o k) u)))
   where
@@ -159,14 +159,14 @@ module _ {n size v step : ℕ} {d : ℕ → ℕ → ℕ} {o w : ℕ → ℕ} {ne
       let no-in : ¬ In o size v = λ (k, hk, s). free k hk s in
       let far : (a b : ℕ) → a < n → b < n → In o size a → ¬ In o size b → d (o j) v ≤ d a b = rw e apart in
       let within = r.held v hv free j hj in
-      let by = span-by n d back (in-or-out o size) (types j hj) hv (j, hj, refl) no-in far (o i) (types i h) (i, h, refl) in
+      let by = span-by n d back (in_or_out o size) (types j hj) hv (j, hj, refl) no-in far (o i) (types i h) (i, h, refl) in
       elim (ℕ_discrete i j) [
-        | yes s ↦ let step = span-step n d back (in-or-out o size) (types j hj) hv (j, hj, refl) no-in far in rw s (omega arith)
+        | yes s ↦ let step = span-step n d back (in_or_out o size) (types j hj) hv (j, hj, refl) no-in far in rw s (omega arith)
         | no ne ↦ elim (dec_lt i j) [
           | yes l ↦ omega (arith, by (once i j l hj), r.spanned i j l hj, longest-by w i j (size - 1) (omega arith) (omega arith))
           | no f ↦ let l : j < i = omega arith in
               let away = once j i l h in
-              let other = span-sym n d back (o j) (o i) (types j hj) (types i h) away in
+              let other = span_sym n d back (o j) (o i) (types j hj) (types i h) away in
               omega (arith, by (λ s. away (sym s)), other, r.spanned j i l h, longest-by w j i (size - 1) (omega arith) (omega arith))
         ]
       ]
@@ -174,8 +174,8 @@ module _ {n size v step : ℕ} {d : ℕ → ℕ → ℕ} {o w : ℕ → ℕ} {ne
   module _ {o' w' : ℕ → ℕ} (same : (k : ℕ) → k < size → o' k ≡ o k) (here : o' size ≡ v)
       (taken : (k : ℕ) → k < size → w' k ≡ w k) (by : w' size ≡ step) where
     -- What is outside now was so before, and is not v.
-    was-out : (u : ℕ) → Out o' (size + 1) u → Out o size u × (u ≢ v)
-    was-out u f = (λ i h s. f i (omega arith) (same i h ∙ s), λ e. f size (omega arith) (here ∙ sym e))
+    was_out : (u : ℕ) → Out o' (size + 1) u → Out o size u × (u ≢ v)
+    was_out u f = (λ i h s. f i (omega arith) (same i h ∙ s), λ e. f size (omega arith) (here ∙ sym e))
 
     pub reached-more : {near' : List ℕ} → ((u : ℕ) → u < n → u ≢ v → get_or near' u 0 ≡ min (d v u) (get_or near u 0)) →
         Reached n (size + 1) d o' w' near'
@@ -185,18 +185,18 @@ module _ {n size v step : ℕ} {d : ℕ → ℕ → ℕ} {o w : ℕ → ℕ} {ne
           (λ g. rw (same i g, here) (reach i g ∙ sym (stretch-more taken by i g)))
           k b h;
       least = λ u h f.
-          let (out, ne) = was-out u f in
+          let (out, ne) = was_out u f in
           let l = lowered u h ne in
           below_more _ size (λ i hi. rw (same i hi) (omega (arith, r.least u h out i hi))) (rw here (omega arith));
       led = λ u h f.
-          let (out, ne) = was-out u f in
+          let (out, ne) = was_out u f in
           let l = lowered u h ne in
           elim (dec_lt (d v u) (get_or near u 0)) [
             | yes m ↦ inr (size, omega arith, rw here (omega arith))
             | no m ↦ ⊎_elim (λ t. inl (omega arith)) (λ (i, hi, e). inr (i, omega arith, rw (same i hi) (omega arith))) (r.led u h out)
           ];
       held = λ u h f.
-          let (out, ne) = was-out u f in
+          let (out, ne) = was_out u f in
           let e : size + 1 - 1 ≡ size = omega arith in
           rw e (below_more _ size
           (λ i hi. rw (same i hi)

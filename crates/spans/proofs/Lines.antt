@@ -76,9 +76,9 @@ pub record Settling (n k : ℕ) (o w : ℕ → ℕ) (reach spans : List ℕ) : T
 
 -- No line is settled but the last, which has no type behind it; and all are.
 module _ {n : ℕ} {order steps spans : List ℕ} where
-  pub settling-none : n ≤ 128 → Lined n order steps spans →
+  pub settling_none : n ≤ 128 → Lined n order steps spans →
       Settling n n (λ k. get_or order k 0) (λ k. get_or steps k 0) (replicate 128 65535) spans
-  settling-none few l = record {
+  settling_none few l = record {
     reached = λ i h b. absurd (omega arith);
     beyond = λ i h b. omega (arith, get_or-replicate {A = ℕ} 128 (get_or order i 0) 65535 0 (omega (arith, l.types i b)));
     earlier = l.earlier;
@@ -86,9 +86,9 @@ module _ {n : ℕ} {order steps spans : List ℕ} where
     later = λ i j g. l.later i j;
   }
 
-  pub settling-all : {k : ℕ} {before reach : List ℕ} → k ≤ 1 → length spans ≡ length before →
+  pub settling_all : {k : ℕ} {before reach : List ℕ} → k ≤ 1 → length spans ≡ length before →
       Settling n k (λ i. get_or order i 0) (λ i. get_or steps i 0) reach spans → Completed n order steps before spans
-  settling-all h e s = record { size = e; earlier = s.earlier; later = λ i j. s.settled i j (omega arith) }
+  settling_all h e s = record { size = e; earlier = s.earlier; later = λ i j. s.settled i j (omega arith) }
 
 -- What `reach` comes to by a step from type v.
 abbrev stepped : List ℕ → ℕ → ℕ → ℕ → ℕ
@@ -128,8 +128,8 @@ module _ {n wide k step : ℕ} {o w : ℕ → ℕ} {reach reach' spans spans' : 
   changed : (j : ℕ) → j < n → cell_at spans' (o (k - 1)) (o j) ≡ min (cell_at spans (o (k - 1)) (o j)) (stepped reach (o k) step (o j))
   changed j h = x.holds (o (k - 1)) (o j) (refl, omega (arith, types j h))
 
-  pub settling-more : Settling n k o w reach' spans'
-  settling-more = record {
+  pub settling_more : Settling n k o w reach' spans'
+  settling_more = record {
     reached = λ i l h. f.holds (o i) (omega (arith, types i h)) ∙ behind i h l;
     beyond = λ i l h. rw (f.holds (o i) (omega (arith, types i h))) (before i h l);
     earlier = λ i j l h. elim (ℕ_discrete (j + 1) k) [

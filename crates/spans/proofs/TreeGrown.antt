@@ -10,14 +10,14 @@ use lib.Dec.{eqb}
 use lib.ListN.{length, get_or, set, length-set, replicate, get_or-replicate}
 use lib.Seq.{get_or-set_same, get_or-set_other}
 use borrow.Author.Tests.{eq-eqb}
-use Rattle.graph.specs.Spans.{grid, passing, spansBy, spans}
-use Rattle.graph.proofs.Below.{table-ext, count-all}
-use Rattle.graph.proofs.Growing.{span-sym}
+use Rattle.graph.specs.Spans.{grid, passing, spans_by, spans}
+use Rattle.graph.proofs.Below.{table_ext, count-all}
+use Rattle.graph.proofs.Growing.{span_sym}
 use Rattle.distances.specs.Area.{cell_at, CellsWritten, Line}
 use Rattle.distances.proofs.Area.{cell-kept}
 use Rattle.spans.specs.Tree.{between, Mirror, opposite, Spanned}
 use Rattle.spans.specs.Growth.{Full, Filled, nearer, Least, IsOutside, NearestFound, TreeGrown, Completed}
-use Rattle.spans.proofs.Growing.{between-sym, Out, Listed, Reached, out_of, outside, some_left, none_left, listed_more, reached-more}
+use Rattle.spans.proofs.Growing.{between_sym, Out, Listed, Reached, out_of, outside, some_left, none_left, listed_more, reached-more}
 use Rattle.spans.proofs.Lines.{Lines, lines_more}
 
 abbrev pub at : List ℕ → ℕ → ℕ
@@ -33,9 +33,9 @@ pub record Next (n size v step : ℕ) (near inside order : List ℕ) : Type 0 wh
 pub record Growing (n size v step : ℕ) (area before spans order steps near inside reach : List ℕ) : Type 0 where
   pub to : size ≤ n
   pub spans-size : length spans ≡ length before
-  pub order-size : length order ≡ 128
-  pub steps-size : length steps ≡ 128
-  pub near-size : length near ≡ 128
+  pub order_size : length order ≡ 128
+  pub steps_size : length steps ≡ 128
+  pub near_size : length near ≡ 128
   pub inside-size : length inside ≡ 128
   pub reach-size : length reach ≡ 128
   pub listed : Listed n size (at order) inside
@@ -44,19 +44,19 @@ pub record Growing (n size v step : ℕ) (area before spans order steps near ins
   pub next : size < n → Next n size v step near inside order
 
 -- No type is in the tree.
-pub growing-none : {n : ℕ} (area before : List ℕ) {order steps inside : List ℕ} → n ≤ 128 →
+pub growing_none : {n : ℕ} (area before : List ℕ) {order steps inside : List ℕ} → n ≤ 128 →
     length order ≡ 128 → length steps ≡ 128 → length inside ≡ 128 → ((u : ℕ) → u < n → at inside u ≡ 0) →
     ((u : ℕ) → n ≤ u → u < 128 → at inside u ≡ 65535) →
     Growing n 0 0 0 area before before order steps (replicate 128 65535) inside (replicate 128 65535)
-growing-none {n} area before {inside = inside} few ho hs hi free past =
+growing_none {n} area before {inside = inside} few ho hs hi free past =
     let full : (u : ℕ) → u < n → 65535 ≤ at (replicate 128 65535) u =
     λ u h. omega (arith, get_or-replicate {A = ℕ} 128 u 65535 0 (omega arith)) in
     record {
       to = omega arith;
       spans-size = refl;
-      order-size = ho;
-      steps-size = hs;
-      near-size = refl;
+      order_size = ho;
+      steps_size = hs;
+      near_size = refl;
       inside-size = hi;
       reach-size = refl;
       listed = record {
@@ -88,16 +88,16 @@ growing-none {n} area before {inside = inside} few ho hs hi free past =
     }
 
 -- All types are in the tree.
-pub growing-all : {n size v step : ℕ} {area before spans order steps near inside reach : List ℕ} →
+pub growing_all : {n size v step : ℕ} {area before spans order steps near inside reach : List ℕ} →
     Growing n size v step area before spans order steps near inside reach → n ≤ size → TreeGrown n area before spans order steps
-growing-all {n} {size} {order = order} g l =
+growing_all {n} {size} {order = order} g l =
     let e : size ≡ n = omega (arith, g.to) in
     let listed = rw e at g.listed in
     let lines = rw e at g.lines in
     record {
       size = g.spans-size;
-      order-size = g.order-size;
-      steps-size = g.steps-size;
+      order_size = g.order_size;
+      steps_size = g.steps_size;
       lined = record {
         types = listed.types;
         once = listed.once;
@@ -130,13 +130,13 @@ module _ {n wide size v step step' v' : ℕ} {area before spans spans' order ste
   same k h = get_or-set_other order size k v 0 (omega arith)
 
   here : at (set order size v) size ≡ v
-  here = get_or-set_same order size v 0 (omega (arith, g.order-size))
+  here = get_or-set_same order size v 0 (omega (arith, g.order_size))
 
   taken : (k : ℕ) → k < size → at (set steps size step) k ≡ at steps k
   taken k h = get_or-set_other steps size k step 0 (omega arith)
 
   by : at (set steps size step) size ≡ step
-  by = get_or-set_same steps size step 0 (omega (arith, g.steps-size))
+  by = get_or-set_same steps size step 0 (omega (arith, g.steps_size))
 
   listed' : Listed n (size + 1) (at (set order size v)) inside'
   listed' = listed_more g.inside-size (omega arith) hv g.listed (g.next more).free same here
@@ -192,13 +192,13 @@ module _ {n wide size v step step' v' : ℕ} {area before spans spans' order ste
   growing-more = record {
     to = omega arith;
     spans-size = x.size ∙ g.spans-size;
-    order-size = length-set order size v ∙ g.order-size;
-    steps-size = length-set steps size step ∙ g.steps-size;
-    near-size = a.size ∙ g.near-size;
+    order_size = length-set order size v ∙ g.order_size;
+    steps_size = length-set steps size step ∙ g.steps_size;
+    near_size = a.size ∙ g.near_size;
     inside-size = length-set inside v 65535 ∙ g.inside-size;
     reach-size = length-set reach' v 0 ∙ f.size ∙ g.reach-size;
     listed = listed';
-    reached = reached-more (between-sym area) (λ i j. small (128 * min i j + max i j)) g.listed.types g.listed.once g.reached
+    reached = reached-more (between_sym area) (λ i j. small (128 * min i j + max i j)) g.listed.types g.listed.once g.reached
         hv free (g.next more).taken (g.next more).nearest same here taken by lowered;
     lines = lines_more few room g.reach-size g.listed.types hv free g.lines f x same here taken by;
     next = next';
@@ -213,11 +213,11 @@ module _ {n : ℕ} {before area : List ℕ} (few : n ≤ 128) (w : CellsWritten 
   between-kept i j hi hj = cell-kept w (λ a b t. omega arith) (min i j) (max i j) (omega arith) (λ t. omega arith)
 
   spans-kept : spans n (between area) ≡ spans n (between before)
-  unfolding spans spansBy grid
+  unfolding spans spans_by grid
   spans-kept = kept n
     where
-      kept : (k : ℕ) → spansBy k n (between area) ≡ spansBy k n (between before)
-      kept zero = table-ext n _ _ (λ a h. table-ext n _ _ (λ b l. between-kept a b h l))
+      kept : (k : ℕ) → spans_by k n (between area) ≡ spans_by k n (between before)
+      kept zero = table_ext n _ _ (λ a h. table_ext n _ _ (λ b l. between-kept a b h l))
       kept (suc k) = ap (passing n k) (kept k)
 
   -- The settled stretches are the spans, whichever of two types joined first.
@@ -232,7 +232,7 @@ module _ {n : ℕ} {before area : List ℕ} (few : n ≤ 128) (w : CellsWritten 
           | yes l ↦ s.later a b l hb ∙ sym (g.spanned a b l hb)
           | no f ↦ let l : b < a = elim (ℕ_discrete a b) [ yes e ↦ absurd (ne (sym ea ∙ ap (at order) e ∙ eb)) | no m ↦ omega arith ] in
               s.earlier b a l ha ∙ sym (g.spanned b a l ha)
-              ∙ span-sym n (between area) (between-sym area) (at order b) (at order a) (g.lined.types b hb) (g.lined.types a ha)
+              ∙ span_sym n (between area) (between_sym area) (at order b) (at order a) (g.lined.types b hb) (g.lined.types a ha)
               (g.lined.once b a l ha)
         ]);
   }

@@ -10,7 +10,7 @@ use lib.ListN.{length, get_or, set, length-set}
 use lib.Seq.{get_or-set_same, get_or-set_other}
 use borrow.Author.Count.{below_more}
 use Rattle.distances.specs.Area.{cell_at, CellsWritten, Line}
-use Rattle.distances.proofs.Area.{Asked, Passed, byColumn, Stride, cell-kept, part-passed, cell-passed, all-passed}
+use Rattle.distances.proofs.Area.{Asked, Passed, by_column, Stride, cell-kept, part-passed, cell-passed, all-passed}
 use Rattle.spans.specs.Tree.{opposite}
 use Rattle.spans.specs.Growth.{Filled, Least, OutsideAt, NearestFound}
 
@@ -54,11 +54,11 @@ found-more {k = k} {r} {p} f =
     }))
 
 -- A part of the mirror cells more: what stands opposite to it has not changed, since that is no mirror cell.
-pub mirror-passed : {by : ℕ → ℕ → ℕ} {asked part : Asked} {k m : ℕ} {before mid after : List ℕ} →
+pub mirror_passed : {by : ℕ → ℕ → ℕ} {asked part : Asked} {k m : ℕ} {before mid after : List ℕ} →
     CellsWritten (Passed by asked k) (opposite before) before mid → Stride by asked part k m →
     ((i j : ℕ) → part i j → (i < 128) × ¬ Passed by asked k j i) → CellsWritten part (opposite mid) mid after →
     CellsWritten (Passed by asked m) (opposite before) before after
-mirror-passed w turn free x =
+mirror_passed w turn free x =
     part-passed w turn x (λ i j t. cell-kept w (λ a b u. turn.narrow a b u.is) j i (free i j t).0 (free i j t).1)
 
 -- A type joins, and a step is settled: `reach` is as long as the step at least, and the line is written by it. Only what is stored
@@ -66,13 +66,13 @@ mirror-passed w turn free x =
 pub record Reaching (stores : ℕ → ℕ → ℕ) (v wide step u : ℕ) (reach₀ reach spans₀ spans : List ℕ) : Type 0 where
   pub upto : u ≤ wide
   pub reached : Filled u (λ x. max (get_or reach₀ x 0) step) reach₀ reach
-  pub written : CellsWritten (Passed byColumn (Line v wide) u) (λ i x. stores (cell_at spans₀ i x) (max (get_or reach₀ x 0) step)) spans₀ spans
+  pub written : CellsWritten (Passed by_column (Line v wide) u) (λ i x. stores (cell_at spans₀ i x) (max (get_or reach₀ x 0) step)) spans₀ spans
 
 module _ {stores : ℕ → ℕ → ℕ} {v wide step u : ℕ} {reach₀ reach spans₀ spans : List ℕ} (r : Reaching stores v wide step u reach₀ reach spans₀ spans) where
-  pub reaching-more : {far new : ℕ} → (u < wide) × (wide ≤ 128) × (length reach₀ ≡ 128) × (128 * v + 128 ≤ length spans₀) →
+  pub reaching_more : {far new : ℕ} → (u < wide) × (wide ≤ 128) × (length reach₀ ≡ 128) × (128 * v + 128 ≤ length spans₀) →
       far ≡ max step (get_or reach u 0) → new ≡ stores (cell_at spans v u) far →
       Reaching stores v wide step (u + 1) reach₀ (set reach u far) spans₀ (set spans (128 * v + u) new)
-  reaching-more {far} h e g =
+  reaching_more {far} h e g =
       let is : far ≡ max (get_or reach₀ u 0) step = omega (arith, r.reached.kept u (omega arith)) in
       let was = cell-kept r.written (omega arith) v u (omega arith) (omega arith) in
       record {
@@ -81,6 +81,6 @@ module _ {stores : ℕ → ℕ → ℕ} {v wide step u : ℕ} {reach₀ reach sp
         written = cell-passed r.written (omega arith) (omega arith) (g ∙ rw (was, is));
       }
 
-  pub reaching-all : wide ≤ u → Filled wide (λ x. max (get_or reach₀ x 0) step) reach₀ reach
+  pub reaching_all : wide ≤ u → Filled wide (λ x. max (get_or reach₀ x 0) step) reach₀ reach
       × CellsWritten (Line v wide) (λ i x. stores (cell_at spans₀ i x) (max (get_or reach₀ x 0) step)) spans₀ spans
-  reaching-all h = let e : u ≡ wide = omega (arith, r.upto) in (rw e at r.reached, all-passed r.written (omega arith))
+  reaching_all h = let e : u ≡ wide = omega (arith, r.upto) in (rw e at r.reached, all-passed r.written (omega arith))

@@ -1,7 +1,7 @@
 -- A tree grows over the types from type 0 on. What the code holds of it: the order in which the types joined and the steps by which
 -- they did; for each type outside how near it is; and for each type of the tree the longest step behind it.
 use Rattle.std.specs.Prelude.{◌≡◌, ◌≢◌, ◌⊎◌, cond, List, ℕ, zero, suc, ◌≤◌, ◌<◌, min, max, leb, length, get_or}
-use Rattle.rules.specs.Sizes.{mostTypes}
+use Rattle.rules.specs.Sizes.{most_types}
 use Rattle.distances.specs.Area.{cell_at}
 use Rattle.spans.specs.Tree.{span_of}
 
@@ -59,8 +59,8 @@ pub record Lined (n : ℕ) (order steps spans : List ℕ) : Type 0 where
 -- All of n types are in the tree, and their spans are their stretches.
 pub record TreeGrown (n : ℕ) (area before spans order steps : List ℕ) : Type 0 where
   pub size : length spans ≡ length before
-  pub order-size : length order ≡ mostTypes
-  pub steps-size : length steps ≡ mostTypes
+  pub order_size : length order ≡ most_types
+  pub steps_size : length steps ≡ most_types
   pub lined : Lined n order steps spans
   pub all : (u : ℕ) → u < n → (k : ℕ) × (k < n) × (get_or order k 0 ≡ u)
   pub spanned : (i k : ℕ) → i < k → k < n → span_of n area (get_or order i 0) (get_or order k 0) ≡ stretch steps i k

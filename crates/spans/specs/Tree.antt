@@ -1,7 +1,7 @@
 -- What the distance area says of two types, and what is written of them: their distance in the mirror cell too, and their span.
 use Rattle.std.specs.Prelude.{◌≡◌, ◌≢◌, List, ℕ, ◌+◌, ◌*◌, ◌<◌, min, max, length}
 use Rattle.graph.specs.Spans.{cell, spans}
-use Rattle.rules.specs.Sizes.{lineSize}
+use Rattle.rules.specs.Sizes.{line_size}
 use Rattle.distances.specs.Area.{cell_at}
 
 -- The distance of two types in the distance area, whichever is the lower, and their mirror cell.
@@ -9,7 +9,7 @@ abbrev pub between : List ℕ → ℕ → ℕ → ℕ
 between area i j = cell_at area (min i j) (max i j)
 
 abbrev pub mirrored : ℕ → ℕ → ℕ
-mirrored i j = lineSize * max i j + min i j
+mirrored i j = line_size * max i j + min i j
 
 -- The mirror cells of n types, and what stands opposite to a cell.
 abbrev pub Mirror : ℕ → ℕ → ℕ → Type 0

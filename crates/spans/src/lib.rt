@@ -4,7 +4,7 @@
 // its mirror cells, so that a type's line holds all its distances. The spans are written to a lent area of their own.
 
 ghost use Rattle.std.specs.Prelude.{◌≡◌, ℕ, ◌+◌, ◌*◌, ◌≤◌, ◌<◌, min, max, length, get_or};
-ghost use Rattle.rules.specs.Sizes.{mostTypes, lineSize, distanceArea};
+ghost use Rattle.rules.specs.Sizes.{most_types, line_size, distance_area};
 ghost use Rattle.distances.specs.Area.{cell_at, CellsWritten, Line};
 ghost use Rattle.spans.specs.Tree.{between, mirrored, Mirror, opposite, Spanned};
 ghost use Rattle.spans.specs.Growth.{LinePart, Full, Filled, nearer, Least, OutsideAt, NearestFound, Lined, TreeGrown, Completed};
@@ -13,7 +13,7 @@ use rules::{LINE, MOST_TYPES};
 
 // The mirror cell of two types.
 pub fn mirrored(i: usize, j: usize) -> usize
-    requires { (i < mostTypes) × (j < mostTypes) }
+    requires { (i < most_types) × (j < most_types) }
     ensures { result ≡ mirrored i j }
 {
     if i < j { LINE * j + i } else { LINE * i + j }
@@ -33,15 +33,15 @@ fn longer(a: u16, b: u16) -> u16
 
 // Loops over types run to a multiple of 16, in whole vectors.
 fn lanes(n: usize) -> usize
-    requires { n ≤ mostTypes }
-    ensures { (n ≤ result) × (result ≤ mostTypes) }
+    requires { n ≤ most_types }
+    ensures { (n ≤ result) × (result ≤ most_types) }
 {
     16 * ((n + 15) / 16)
 }
 
 // The mirror cells of type j with the types from `from` to `to`.
 fn mirror_part(area: &mut [u16], j: usize, from: usize, to: usize)
-    requires { (j < mostTypes) × (from ≤ to) × (to ≤ j) × (distanceArea ≤ length area.old) }
+    requires { (j < most_types) × (from ≤ to) × (to ≤ j) × (distance_area ≤ length area.old) }
     ensures { CellsWritten (LinePart j from to) (opposite area.old) area.old area.new }
 {
     let mut i = from;
@@ -53,7 +53,7 @@ fn mirror_part(area: &mut [u16], j: usize, from: usize, to: usize)
 
 // The mirror cells of type j, eight and eight.
 fn mirror_line(area: &mut [u16], j: usize)
-    requires { (j < mostTypes) × (distanceArea ≤ length area.old) }
+    requires { (j < most_types) × (distance_area ≤ length area.old) }
     ensures { CellsWritten (Line j j) (opposite area.old) area.old area.new }
 {
     let parts = j / 8;
@@ -67,7 +67,7 @@ fn mirror_line(area: &mut [u16], j: usize)
 
 // The mirror cells of n types hold their distances.
 fn mirror(area: &mut [u16], n: usize)
-    requires { (n ≤ mostTypes) × (distanceArea ≤ length area.old) }
+    requires { (n ≤ most_types) × (distance_area ≤ length area.old) }
     ensures { CellsWritten (Mirror n) (opposite area.old) area.old area.new }
 {
     let mut j = 0;
@@ -79,9 +79,9 @@ fn mirror(area: &mut [u16], n: usize)
 
 // None of n types is in the tree. The numbers behind them are no types, and count as if they were in it.
 fn none_inside(n: usize) -> [u16; MOST_TYPES]
-    requires { n ≤ mostTypes }
-    ensures { (length result ≡ mostTypes) × ((u : ℕ) → u < n → get_or result u 0 ≡ 0)
-        × ((u : ℕ) → n ≤ u → u < mostTypes → get_or result u 0 ≡ 65535) }
+    requires { n ≤ most_types }
+    ensures { (length result ≡ most_types) × ((u : ℕ) → u < n → get_or result u 0 ≡ 0)
+        × ((u : ℕ) → n ≤ u → u < most_types → get_or result u 0 ≡ 65535) }
 {
     let mut inside = [65535u16; MOST_TYPES];
     let mut u = 0;
@@ -94,7 +94,7 @@ fn none_inside(n: usize) -> [u16; MOST_TYPES]
 
 // Type v is in the tree now: other types may be nearer to it. The distance of the nearest one outside.
 fn approach(area: &[u16], wide: usize, near: &mut [u16], inside: &[u16], v: usize) -> u16
-    requires { (wide ≤ mostTypes) × (v < mostTypes) × (length near.old ≡ mostTypes) × (length inside.now ≡ mostTypes) × (distanceArea ≤ length area.now) }
+    requires { (wide ≤ most_types) × (v < most_types) × (length near.old ≡ most_types) × (length inside.now ≡ most_types) × (distance_area ≤ length area.now) }
     ensures { Filled wide (nearer v area.now near.old) near.old near.new
         × Least wide (λ u. max (nearer v area.now near.old u) (get_or inside.now u 0)) result }
 {
@@ -119,7 +119,7 @@ fn outside_at(near: u16, inside: u16, x: u16, u: u16) -> u16
 
 // The last type outside at distance x.
 fn find(wide: usize, near: &[u16], inside: &[u16], x: u16) -> usize
-    requires { (wide ≤ mostTypes) × (length near.now ≡ mostTypes) × (length inside.now ≡ mostTypes) }
+    requires { (wide ≤ most_types) × (length near.now ≡ most_types) × (length inside.now ≡ most_types) }
     ensures { NearestFound wide near.now inside.now x result }
 {
     let mut found = 0;
@@ -133,7 +133,7 @@ fn find(wide: usize, near: &[u16], inside: &[u16], x: u16) -> usize
 
 // Type v joins by a step: its spans with the types of the tree.
 fn join_line(spans: &mut [u16], wide: usize, reach: &mut [u16], v: usize, step: u16)
-    requires { (wide ≤ mostTypes) × (length reach.old ≡ mostTypes) × (lineSize * v + lineSize ≤ length spans.old) }
+    requires { (wide ≤ most_types) × (length reach.old ≡ most_types) × (line_size * v + line_size ≤ length spans.old) }
     ensures { Filled wide (λ u. max (get_or reach.old u 0) step) reach.old reach.new
         × CellsWritten (Line v wide) (λ i u. max (get_or reach.old u 0) step) spans.old spans.new }
 {
@@ -149,7 +149,7 @@ fn join_line(spans: &mut [u16], wide: usize, reach: &mut [u16], v: usize, step: 
 
 // A step from type v to the types that joined behind it: its spans with them.
 fn settle_line(spans: &mut [u16], wide: usize, reach: &mut [u16], v: usize, step: u16)
-    requires { (wide ≤ mostTypes) × (length reach.old ≡ mostTypes) × (lineSize * v + lineSize ≤ length spans.old) }
+    requires { (wide ≤ most_types) × (length reach.old ≡ most_types) × (line_size * v + line_size ≤ length spans.old) }
     ensures { Filled wide (λ u. max (get_or reach.old u 0) step) reach.old reach.new
         × CellsWritten (Line v wide) (λ i u. min (cell_at spans.old i u) (max (get_or reach.old u 0) step))
         spans.old spans.new }
@@ -166,8 +166,8 @@ fn settle_line(spans: &mut [u16], wide: usize, reach: &mut [u16], v: usize, step
 
 // The tree grows: the order in which types join, their steps, and their spans with the types before them.
 fn grow_tree(area: &[u16], spans: &mut [u16], n: usize, order: &mut [usize], steps: &mut [u16])
-    requires { (n ≤ mostTypes) × (length order.old ≡ mostTypes) × (length steps.old ≡ mostTypes) × Full n area.now
-        × (distanceArea ≤ length area.now) × (lineSize * n ≤ length spans.old) }
+    requires { (n ≤ most_types) × (length order.old ≡ most_types) × (length steps.old ≡ most_types) × Full n area.now
+        × (distance_area ≤ length area.now) × (line_size * n ≤ length spans.old) }
     ensures { TreeGrown n area.now spans.old spans.new order.new steps.new }
 {
     let wide = lanes(n);
@@ -191,8 +191,8 @@ fn grow_tree(area: &[u16], spans: &mut [u16], n: usize, order: &mut [usize], ste
 
 // The spans of each type with the types that joined behind it, from the last type back.
 fn settle(spans: &mut [u16], n: usize, order: &[usize], steps: &[u16])
-    requires { (n ≤ mostTypes) × (length order.now ≡ mostTypes) × (length steps.now ≡ mostTypes) × Lined n order.now steps.now spans.old
-        × (lineSize * n ≤ length spans.old) }
+    requires { (n ≤ most_types) × (length order.now ≡ most_types) × (length steps.now ≡ most_types) × Lined n order.now steps.now spans.old
+        × (line_size * n ≤ length spans.old) }
     ensures { Completed n order.now steps.now spans.old spans.new }
 {
     let wide = lanes(n);
@@ -209,7 +209,7 @@ fn settle(spans: &mut [u16], n: usize, order: &[usize], steps: &[u16])
 
 // The spans of n types, each in both of its cells, and their distances in both of theirs.
 pub fn spans(area: &mut [u16], spans: &mut [u16], n: usize)
-    requires { (n ≤ mostTypes) × (distanceArea ≤ length area.old) × (lineSize * n ≤ length spans.old) }
+    requires { (n ≤ most_types) × (distance_area ≤ length area.old) × (line_size * n ≤ length spans.old) }
     ensures { CellsWritten (Mirror n) (opposite area.old) area.old area.new
         × Spanned n area.old spans.old spans.new }
 {

@@ -8,12 +8,12 @@ use lib.ListN.{length, get_or}
 use Rattle.rules.specs.Job.{Bytes}
 use Rattle.rules.specs.Types.{row_at}
 use Rattle.rules.specs.Median.{medians}
-use Rattle.rules.proofs.Between.{half-way, middle-u, middle-v, middle-w}
+use Rattle.rules.proofs.Between.{half_way, middle-u, middle-v, middle-w}
 use Rattle.types.specs.State.{stored_at}
-use Rattle.types.proofs.State.{length-storedAt}
+use Rattle.types.proofs.State.{length-stored_at}
 use Rattle.distances.specs.Area.{cell_at, Weighed}
-use Rattle.medians.proofs.Stored.{cost-bound}
-use Rattle.triplets.specs.Triplet.{costFloor}
+use Rattle.medians.proofs.Stored.{cost_bound}
+use Rattle.triplets.specs.Triplet.{cost_floor}
 use Rattle.triplets.specs.declared.Triplet.{Triplet}
 use Rattle.triplets.proofs.Order.{Between, least-cost-is}
 use Rattle.medians.specs.Swept.{Gives}
@@ -26,12 +26,12 @@ module _ {ws : List ℕ} {states : Bytes} {made : ℕ} {t : Triplet} (weighed : 
   -- What they give costs little.
   pub gives-small : {x : Bytes} {cost : ℕ} → Gives ws states made t x cost → cost ≤ 128000
   gives-small g =
-      omega (arith, gives-cost weighed lie (omega arith) (omega arith) inside g, cost-bound ws states t.u t.v t.w weighed (omega arith) (omega arith) (omega arith))
+      omega (arith, gives-cost weighed lie (omega arith) (omega arith) inside g, cost_bound ws states t.u t.v t.w weighed (omega arith) (omega arith) (omega arith))
 
   -- The distance area tells the truth of them.
   module _ {area : List ℕ} {n : ℕ} (faithful : Faithful ws states area n) (current : t.w < n) where
     long : (i : ℕ) → i ≤ t.w → length (stored_at states i) ≡ length ws
-    long i h = length-storedAt states i (omega arith) ∙ sym weighed.size
+    long i h = length-stored_at states i (omega arith) ∙ sym weighed.size
 
     telling : (c : ℕ) → c < length ws →
         (get_or ws c 0 ≢ 0)
@@ -45,7 +45,7 @@ module _ {ws : List ℕ} {states : Bytes} {made : ℕ} {t : Triplet} (weighed : 
       -- A type that is every median vector is no new row.
       not_new : (i : ℕ) → i ≤ t.w →
           ((k : ℕ) → k < 3 → row_at (medians (stored_at states t.u) (stored_at states t.v) (stored_at states t.w)) k ≡ stored_at states i) → ⊥
-      not_new i h all = g.unmade i (omega arith) (sym (g.median.row_is ∙ all g.median.number g.median.below-three))
+      not_new i h all = g.unmade i (omega arith) (sym (g.median.row_is ∙ all g.median.number g.median.below_three))
 
       -- So no type lies between the other two.
       not-between : Between (cell_at area t.u t.v) (cell_at area t.u t.w) (cell_at area t.v t.w) → ⊥
@@ -67,13 +67,13 @@ module _ {ws : List ℕ} {states : Bytes} {made : ℕ} {t : Triplet} (weighed : 
           b
 
       -- What a triplet gives costs no less than its distances tell.
-      pub no_less : costFloor area t ≤ cost
+      pub no_less : cost_floor area t ≤ cost
       no_less =
           ⊎_elim
           (λ half. omega (
             arith,
             gives-cost weighed lie (omega arith) (omega arith) inside g,
-            half-way ws (stored_at states t.u) (stored_at states t.v) (stored_at states t.w) (long t.u (omega arith)),
+            half_way ws (stored_at states t.u) (stored_at states t.v) (stored_at states t.w) (long t.u (omega arith)),
             faithful.measured t.u t.v (omega arith) (omega arith),
             faithful.measured t.u t.w (omega arith) current,
             faithful.measured t.v t.w (omega arith) current,

@@ -13,13 +13,13 @@ use Rattle.sweep.specs.Candidate.{AtCentre}
 use Rattle.sweep.specs.Floors.{Floored, Floors}
 
 pub floored-none : {A : Rows} {low : ℕ} → ((x : Bytes) (cost : ℕ) → A x cost → ⊥) → Floored A low low
-floored-none none = record { no-higher = omega arith; no_less = λ x cost k. absurd (none x cost k) }
+floored-none none = record { no_higher = omega arith; no_less = λ x cost k. absurd (none x cost k) }
 
 pub floored-more : {A B C : Rows} {f g h : ℕ} → Floored A f g → Floored B g h → ((x : Bytes) (cost : ℕ) → C x cost → A x cost ⊎ B x cost) → Floored C f h
 floored-more a b which = record {
-  no-higher = omega (arith, a.no-higher, b.no-higher);
+  no_higher = omega (arith, a.no_higher, b.no_higher);
   no_less = λ x cost k.
-      ⊎_elim (λ p. omega (arith, a.no_less x cost p, b.no-higher)) (λ q. b.no_less x cost q) (which x cost k);
+      ⊎_elim (λ p. omega (arith, a.no_less x cost p, b.no_higher)) (λ q. b.no_less x cost q) (which x cost k);
 }
 
 -- Floors at first, and one of them found anew.

@@ -11,7 +11,7 @@ use lib.ListN.{length, get_or}
 use Rattle.rules.specs.Job.{Bytes}
 use Rattle.links.specs.Marks.{marked}
 use Rattle.triplets.specs.Followers.{Follower}
-use Rattle.triplets.specs.Triplet.{inOrder}
+use Rattle.triplets.specs.Triplet.{in_order}
 use Rattle.triplets.specs.declared.Triplet.{Triplet}
 use Rattle.medians.specs.declared.search.Search.{Search}
 use Rattle.medians.specs.Search.{Inside}
@@ -54,12 +54,12 @@ module _ {area : List ℕ} {n c : ℕ} where
 -- What is met at a type c with two others.
 abbrev pub Here : List ℕ → Bytes → List ℕ → ℕ → ℕ → ℕ → ℕ → ℕ → Rows
 Here ws states area n made c a b x cost =
-    Faithful ws states area n × ((c < a) ⊎ (marked area a b ≡ false)) × Gives ws states made (inOrder c a b) x cost
+    Faithful ws states area n × ((c < a) ⊎ (marked area a b ≡ false)) × Gives ws states made (in_order c a b) x cost
 
 -- What is asked for up to the next type is asked for up to this one, or at this one.
 module _ {ws : List ℕ} {states : Bytes} {area : List ℕ} {n made c : ℕ} {x : Bytes} {cost : ℕ} where
-  which-centre : Everywhere ws states area n made (c + 1) x cost → Everywhere ws states area n made c x cost ⊎ AtCentre ws states area n made c n x cost
-  which-centre k = elim (dec_lt k.c c) [
+  which_centre : Everywhere ws states area n made (c + 1) x cost → Everywhere ws states area n made c x cost ⊎ AtCentre ws states area n made c n x cost
+  which_centre k = elim (dec_lt k.c c) [
     | yes h ↦ inl (record { c = k.c; within = h; rest = k.rest })
     | no other ↦ let e : k.c ≡ c = omega (arith, k.within) in inr (rw e at k.rest)
   ]
@@ -80,42 +80,42 @@ module _ {ws : List ℕ} {states : Bytes} {area : List ℕ} {n made c : ℕ} {x 
       higher = k.higher;
       within = h;
       linked = k.linked;
-      met-here = k.met-here;
+      met_here = k.met_here;
       gives = k.gives;
     })
     | no other ↦
         let e : k.b ≡ b = omega (arith, not-passed f k.b k.linked k.within) in
-        inr (k.faithful, rw e at k.met-here, rw e at k.gives)
+        inr (k.faithful, rw e at k.met_here, rw e at k.gives)
   ]
 
 -- What is kept is kept by one sweep after the other.
 pub kept_then : {states : Bytes} {m made made' : ℕ} {mismatches₀ words₁ words₂ guesses₁ guesses₂ : List ℕ} → made' ≡ made →
     TablesKept states m made mismatches₀ words₁ guesses₁ → TablesKept states m made' words₁ words₂ guesses₂ → TablesKept states m made mismatches₀ words₂ guesses₂
-kept_then e a b = record { remembered = rw e at b.remembered; mismatches-size = b.mismatches-size ∙ a.mismatches-size; guesses-size = b.guesses-size }
+kept_then e a b = record { remembered = rw e at b.remembered; mismatches_size = b.mismatches_size ∙ a.mismatches_size; guesses_sized = b.guesses_sized }
 
 module _ {states : Bytes} {area ws next mismatches₀ : List ℕ} {gathered₀ guesses₀ : Bytes} {size : Size} {s₀ : Search}
     (ready : Sweepable states area ws next mismatches₀ gathered₀ guesses₀ size s₀) where
   pub kept-none : TablesKept states size.width s₀.made mismatches₀ mismatches₀ guesses₀
-  kept-none = record { remembered = ready.remembered; mismatches-size = refl; guesses-size = ready.guesses-size }
+  kept-none = record { remembered = ready.remembered; mismatches_size = refl; guesses_sized = ready.guesses_sized }
 
   -- What a search needs, it has after a sweep too.
-  pub still-ready : {A G : Rows} {mismatches : List ℕ} {gathered guesses : Bytes} {s : Search} → Swept A G gathered₀ s₀ gathered s →
+  pub still_ready : {A G : Rows} {mismatches : List ℕ} {gathered guesses : Bytes} {s : Search} → Swept A G gathered₀ s₀ gathered s →
       TablesKept states size.width s₀.made mismatches₀ mismatches guesses → Sweepable states area ws next mismatches gathered guesses size s
-  still-ready a kept = record {
+  still_ready a kept = record {
     weighed = ready.weighed;
     follows = ready.follows;
-    remembered = rw a.made-stays kept.remembered;
-    current = rw a.made-stays ready.current;
+    remembered = rw a.made_stays kept.remembered;
+    current = rw a.made_stays ready.current;
     room = a.room;
-    lie = rw a.made-stays ready.lie;
+    lie = rw a.made_stays ready.lie;
     cells = ready.cells;
-    gathered-size = a.size ∙ ready.gathered-size;
-    guesses-size = kept.guesses-size;
-    low = omega (arith, a.no-higher, ready.low);
+    gathered_size = a.size ∙ ready.gathered_size;
+    guesses_sized = kept.guesses_sized;
+    low = omega (arith, a.no_higher, ready.low);
   }
 
-  pub ready-as : {now : Met} {low : ℕ} → now ≡ met s₀ low → Sweepable states area ws next mismatches₀ gathered₀ guesses₀ size now.search
-  ready-as e = rw e ready
+  pub ready_as : {now : Met} {low : ℕ} → now ≡ met s₀ low → Sweepable states area ws next mismatches₀ gathered₀ guesses₀ size now.search
+  ready_as e = rw e ready
 
   -- Numbers of types are small.
   pub few : {c : ℕ} → c < size.types → c < 128
@@ -123,31 +123,31 @@ module _ {states : Bytes} {area ws next mismatches₀ : List ℕ} {gathered₀ g
 
   -- The first type linked with c, and the next one behind i, where they stand in the table.
   module _ {c : ℕ} (h : c < size.types) where
-    pub follower-first : Follower area size.types c 0 (get_or next (129 * c) 0)
-    follower-first = let e : 129 * c ≡ 129 * c + 0 = omega arith in rw e (ready.follows.each c 0 h (omega arith))
+    pub follower_first : Follower area size.types c 0 (get_or next (129 * c) 0)
+    follower_first = let e : 129 * c ≡ 129 * c + 0 = omega arith in rw e (ready.follows.each c 0 h (omega arith))
 
-    pub follower-next : {i : ℕ} → i < size.types → Follower area size.types c (i + 1) (get_or next (129 * c + i + 1) 0)
-    follower-next {i} l = let e : 129 * c + i + 1 ≡ 129 * c + (i + 1) = omega arith in rw e (ready.follows.each c (i + 1) h (omega arith))
+    pub follower_next : {i : ℕ} → i < size.types → Follower area size.types c (i + 1) (get_or next (129 * c + i + 1) 0)
+    follower_next {i} l = let e : 129 * c + i + 1 ≡ 129 * c + (i + 1) = omega arith in rw e (ready.follows.each c (i + 1) h (omega arith))
 
   -- The types of a triplet are among those made.
   pub ready-inside : {t : Triplet} → IsTriplet area size.types t → Inside states s₀ t
   ready-inside i = record {
-    u-made = omega (arith, ready.current, i.rising, i.current);
-    v-made = omega (arith, ready.current, i.rising, i.current);
-    w-made = omega (arith, ready.current, i.current);
+    u_made = omega (arith, ready.current, i.rising, i.current);
+    v_made = omega (arith, ready.current, i.rising, i.current);
+    w_made = omega (arith, ready.current, i.current);
     room = ready.room;
     lie = ready.lie;
   }
 
   -- Nothing that a triplet gives costs less than its outlook.
-  here-no-less : (c a b : ℕ) {t : Triplet} {r : ℕ} → t ≡ inOrder c a b → IsTriplet area size.types t → Outlook states area s₀.made t r →
+  here_no_less : (c a b : ℕ) {t : Triplet} {r : ℕ} → t ≡ in_order c a b → IsTriplet area size.types t → Outlook states area s₀.made t r →
       (x : Bytes) (cost : ℕ) → Here ws states area size.types s₀.made c a b x cost → r ≤ cost
-  here-no-less c a b {t} is triplet outlook x cost k =
+  here_no_less c a b {t} is triplet outlook x cost k =
       let gives : Gives ws states s₀.made t x cost = rw is k.2 in
       ⊎_elim
-      (λ e. omega (arith, no_less ready.weighed ready.lie triplet.rising (ready-inside triplet).w-made k.0 triplet.current gives))
+      (λ e. omega (arith, no_less ready.weighed ready.lie triplet.rising (ready-inside triplet).w_made k.0 triplet.current gives))
       (λ settled.
-      let (i, h, e) = settled.0 gives.median.number gives.median.below-three in
+      let (i, h, e) = settled.0 gives.median.number gives.median.below_three in
       absurd (gives.unmade i h (e ∙ sym gives.median.row_is)))
       outlook
 
@@ -163,7 +163,7 @@ module _ {states : Bytes} {area ws next mismatches₀ : List ℕ} {gathered₀ g
   one_more : {A C : Rows} (B : ℕ → Rows) {gathered found' : Bytes} {s s' : Search} →
       Swept A (Given s₀.made) gathered₀ s₀ gathered s → Swept (B s.made) (Given s.made) gathered s found' s' →
       ((x : Bytes) (cost : ℕ) → C x cost → A x cost ⊎ B s₀.made x cost) → Swept C (Given s₀.made) gathered₀ s₀ found' s'
-  one_more B a b which = swept-more a (swept_at B Given a.made-stays b) which
+  one_more B a b which = swept-more a (swept_at B Given a.made_stays b) which
 
   -- The sweep of all types.
   pub everywhere-none : Swept (Everywhere ws states area size.types s₀.made 0) (Given s₀.made) gathered₀ s₀ gathered₀ s₀
@@ -173,7 +173,7 @@ module _ {states : Bytes} {area ws next mismatches₀ : List ℕ} {gathered₀ g
       Swept (Everywhere ws states area size.types s₀.made c) (Given s₀.made) gathered₀ s₀ gathered s →
       Swept (AtCentre ws states area size.types s.made c size.types) (Given s.made) gathered s found' s' →
       Swept (Everywhere ws states area size.types s₀.made (c + 1)) (Given s₀.made) gathered₀ s₀ found' s'
-  everywhere-more c a b = one_more (λ made. AtCentre ws states area size.types made c size.types) a b (λ x cost. which-centre)
+  everywhere-more c a b = one_more (λ made. AtCentre ws states area size.types made c size.types) a b (λ x cost. which_centre)
 
   -- A type is passed over where its floor does not matter.
   pub everywhere-passed : (c : ℕ) {gathered : Bytes} {s : Search} {floors : List ℕ} → c < size.types →
@@ -181,7 +181,7 @@ module _ {states : Bytes} {area ws next mismatches₀ : List ℕ} {gathered₀ g
       Swept (Everywhere ws states area size.types s₀.made c) (Given s₀.made) gathered₀ s₀ gathered s →
       Swept (Everywhere ws states area size.types s₀.made (c + 1)) (Given s₀.made) gathered₀ s₀ gathered s
   everywhere-passed c h floors high a =
-      everywhere-more c a (swept_none (λ x cost k. inl (omega (arith, floors.each c h x cost (rw a.made-stays at k)))) a.room)
+      everywhere-more c a (swept_none (λ x cost k. inl (omega (arith, floors.each c h x cost (rw a.made_stays at k)))) a.room)
 
 -- Triplets are passed, one after the other.
 module _ {states : Bytes} {area ws next mismatches₀ : List ℕ} {gathered₀ guesses₀ : Bytes} {size : Size} {met₀ : Met}
@@ -195,7 +195,7 @@ module _ {states : Bytes} {area ws next mismatches₀ : List ℕ} {gathered₀ g
       (so_far : Passed ws states area size met₀ A mismatches₀ gathered₀ mismatches gathered guesses met) where
     -- What a search needs, it has still.
     pub ready_on : Sweepable states area ws next mismatches gathered guesses size met.search
-    ready_on = still-ready ready so_far.swept so_far.kept
+    ready_on = still_ready ready so_far.swept so_far.kept
 
     -- More is passed, and what is asked for was asked for before, or is now.
     pub passed-more : {C : Rows} (B : ℕ → Rows) {mismatches' : List ℕ} {gathered' guesses' : Bytes} {met' : Met} →
@@ -203,7 +203,7 @@ module _ {states : Bytes} {area ws next mismatches₀ : List ℕ} {gathered₀ g
         ((x : Bytes) (cost : ℕ) → C x cost → A x cost ⊎ B met₀.search.made x cost) →
         Passed ws states area size met₀ C mismatches₀ gathered₀ mismatches' gathered' guesses' met'
     passed-more B more which =
-        let stays = so_far.swept.made-stays in
+        let stays = so_far.swept.made_stays in
         record {
           kept = kept_then stays so_far.kept more.kept;
           swept = one_more ready B so_far.swept more.swept which;
@@ -212,13 +212,13 @@ module _ {states : Bytes} {area ws next mismatches₀ : List ℕ} {gathered₀ g
 
   -- A walk at a type c begins: nothing is asked for before the first type linked with c, or before the first one behind a.
   module _ {c : ℕ} (h : c < size.types) where
-    pub centre-none : Passed ws states area size met₀ (AtCentre ws states area size.types met₀.search.made c (get_or next (129 * c) 0))
+    pub centre_none : Passed ws states area size met₀ (AtCentre ws states area size.types met₀.search.made c (get_or next (129 * c) 0))
         mismatches₀ gathered₀ mismatches₀ gathered₀ guesses₀ met₀
-    centre-none = passed_none (λ x cost k. omega (arith, not-passed (follower-first ready h) k.a k.linked k.within))
+    centre_none = passed_none (λ x cost k. omega (arith, not-passed (follower_first ready h) k.a k.linked k.within))
 
     pub first-none : {a : ℕ} → a < size.types → Passed ws states area size met₀
         (WithFirst ws states area size.types met₀.search.made c a (get_or next (129 * c + a + 1) 0)) mismatches₀ gathered₀ mismatches₀ gathered₀ guesses₀ met₀
-    first-none l = passed_none (λ x cost k. omega (arith, k.higher, not-passed (follower-next ready h l) k.b k.linked k.within))
+    first-none l = passed_none (λ x cost k. omega (arith, k.higher, not-passed (follower_next ready h l) k.b k.linked k.within))
 
   -- What is met at c, a and b: the triplet is met at type a instead, or it is asked what it costs at least.
   module _ (c a b : ℕ) where
@@ -226,7 +226,7 @@ module _ {states : Bytes} {area ws next mismatches₀ : List ℕ} {gathered₀ g
         Passed ws states area size met₀ (Here ws states area size.types met₀.search.made c a b) mismatches₀ gathered₀ mismatches₀ gathered₀ guesses₀ met₀
     here-skipped h e = passed_none (λ x cost k. ⊎_elim (λ l. omega arith) (λ f. false≢true (sym f ∙ e)) k.1)
 
-    module _ {t : Triplet} (is : t ≡ inOrder c a b) (triplet : IsTriplet area size.types t) {r : ℕ}
+    module _ {t : Triplet} (is : t ≡ in_order c a b) (triplet : IsTriplet area size.types t) {r : ℕ}
         (outlook : Outlook states area met₀.search.made t r) {mismatches : List ℕ}
         (remembered : Remembered states mismatches size.width met₀.search.made) (same : length mismatches ≡ length mismatches₀) where
       -- The floor is lowered to its outlook, whatever the search comes to.
@@ -235,21 +235,21 @@ module _ {states : Bytes} {area ws next mismatches₀ : List ℕ} {gathered₀ g
           Passed ws states area size met₀ (Here ws states area size.types met₀.search.made c a b) mismatches₀ gathered₀ mismatches gathered guesses
           (met s (min met₀.floor r))
       here-met long swept = record {
-        kept = record { remembered = remembered; mismatches-size = same; guesses-size = long };
+        kept = record { remembered = remembered; mismatches_size = same; guesses_sized = long };
         swept = swept;
-        floored = record { no-higher = omega arith; no_less = λ x cost k. omega (arith, here-no-less ready c a b is triplet outlook x cost k) };
+        floored = record { no_higher = omega arith; no_less = λ x cost k. omega (arith, here_no_less ready c a b is triplet outlook x cost k) };
       }
 
       -- It is passed where that does not matter.
-      pub here-dear : met₀.search.below ≤ r →
+      pub here_dear : met₀.search.below ≤ r →
           Passed ws states area size met₀ (Here ws states area size.types met₀.search.made c a b) mismatches₀ gathered₀ mismatches gathered₀ guesses₀
           (met met₀.search (min met₀.floor r))
-      here-dear h = here-met ready.guesses-size (swept_none (λ x cost k. inl (omega (arith, here-no-less ready c a b is triplet outlook x cost k))) ready.room)
+      here_dear h = here-met ready.guesses_sized (swept_none (λ x cost k. inl (omega (arith, here_no_less ready c a b is triplet outlook x cost k))) ready.room)
 
       -- It is visited, and what it gives is a candidate.
-      pub here-visited : {gathered guesses : Bytes} {s : Search} → length guesses ≡ 4096 →
+      pub here_visited : {gathered guesses : Bytes} {s : Search} → length guesses ≡ 4096 →
           Swept (Gives ws states met₀.search.made t) (Gives ws states met₀.search.made t) gathered₀ met₀.search gathered s →
           Passed ws states area size met₀ (Here ws states area size.types met₀.search.made c a b) mismatches₀ gathered₀ mismatches gathered guesses
           (met s (min met₀.floor r))
-      here-visited long q =
-          here-met long (swept_as (λ x cost k. rw is k.2) (λ x cost g. record { triplet = t; is-triplet = triplet; gives = g }) q)
+      here_visited long q =
+          here-met long (swept_as (λ x cost k. rw is k.2) (λ x cost g. record { triplet = t; is_triplet = triplet; gives = g }) q)

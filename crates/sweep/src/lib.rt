@@ -2,8 +2,8 @@
 // area and the distance area.
 
 ghost use Rattle.std.specs.Prelude.{◌≡◌, true, ◌*◌, ◌≤◌, ◌<◌, min, length};
-ghost use Rattle.triplets.specs.Triplet.{noCost};
-ghost use Rattle.rules.specs.Sizes.{mostTypes, rowSize, distanceArea};
+ghost use Rattle.triplets.specs.Triplet.{no_cost};
+ghost use Rattle.rules.specs.Sizes.{most_types, row_size, distance_area};
 ghost use Rattle.links.specs.Marks.{marked};
 ghost use Rattle.sweep.specs.Candidate.{WithFirst, AtCentre, Remembered, Sweepable};
 ghost use Rattle.sweep.specs.Floors.{met, Outlook, Passed, Floors, Surveyed};
@@ -98,7 +98,7 @@ fn outlook(
     t: Triplet,
     below: usize,
 ) -> usize
-    requires { Remembered states.now mismatches.old m made × (made ≤ mostTypes) × (rowSize * made ≤ length states.now) × (distanceArea ≤ length area.now)
+    requires { Remembered states.now mismatches.old m made × (made ≤ most_types) × (row_size * made ≤ length states.now) × (distance_area ≤ length area.now)
         × (t.u < made) × (t.v < made) × (t.w < made) }
     ensures { Outlook states.now area.now made t result × Remembered states.now mismatches.new m made
         × (length mismatches.new ≡ length mismatches.old) }
@@ -166,7 +166,7 @@ fn at_centre(
     at: Centre,
 ) -> Met
     requires { Sweepable states.now area.now weights.now next.now mismatches.old gathered.old guesses.old at.size at.search × (at.c < at.size.types) }
-    ensures { Passed weights.now states.now area.now at.size (met at.search noCost)
+    ensures { Passed weights.now states.now area.now at.size (met at.search no_cost)
         (AtCentre weights.now states.now area.now at.size.types at.search.made at.c at.size.types)
         mismatches.old gathered.old mismatches.new gathered.new guesses.new result }
 {

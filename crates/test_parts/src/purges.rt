@@ -2,7 +2,7 @@
 // retired rows (R), links (L), and the answer.
 
 ghost use Rattle.std.specs.Prelude.{◌≡◌, ◌≤◌, ◌<◌, length};
-ghost use Rattle.rules.specs.Sizes.{mostWidth, mostTypes, stateArea, distanceArea};
+ghost use Rattle.rules.specs.Sizes.{most_width, most_types, state_area, distance_area};
 
 use crate::show::{answer, number, put};
 use answers::tell;
@@ -47,7 +47,7 @@ fn put_origin(i: usize, types: usize, kind: Kind) {
 
 // The current types, and the retired rows behind them.
 fn show_types(states: &[u8], m: usize, held: Held)
-    requires { (length states.now ≡ stateArea) × (m ≤ mostWidth) × (held.state.made ≤ mostTypes) }
+    requires { (length states.now ≡ state_area) × (m ≤ most_width) × (held.state.made ≤ most_types) }
 {
     let state = held.state;
     let kinds = held.kinds;
@@ -67,8 +67,8 @@ fn show_link(i: usize, j: usize, length: usize) {
 
 // The links of type i and higher types, and how many they are.
 fn put_line(area: &[u16], t: usize, i: usize, each: bool) -> usize
-    requires { (length area.now ≡ distanceArea) × (t ≤ mostTypes) × (i < t) }
-    ensures { result ≤ mostTypes }
+    requires { (length area.now ≡ distance_area) × (t ≤ most_types) × (i < t) }
+    ensures { result ≤ most_types }
 {
     let mut links = 0;
     for j in i..t {
@@ -83,7 +83,7 @@ fn put_line(area: &[u16], t: usize, i: usize, each: bool) -> usize
 }
 
 fn show_links(area: &[u16], t: usize, each: bool)
-    requires { (length area.now ≡ distanceArea) × (t ≤ mostTypes) }
+    requires { (length area.now ≡ distance_area) × (t ≤ most_types) }
 {
     let mut links = 0;
     for i in 0..t {

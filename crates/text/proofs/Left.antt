@@ -14,8 +14,8 @@ use Rattle.rules.specs.Job.{Bytes}
 use Rattle.rules.specs.declared.Answer.{Answer}
 use Rattle.memory.specs.Placed.{Follows}
 use Rattle.memory.proofs.Placed.{placed-padded}
-use Rattle.text.specs.Lines.{legible, networkOf}
-use Rattle.text.specs.Printed.{printedUsed, textRoom, text_of, refusalOf, briefRoom, printedWithin, printedAs, printedBytes, RefusalWithin, RefusalLeft, TextWithin, TextLeft, briefAs, BriefLeft}
+use Rattle.text.specs.Lines.{legible, network_of}
+use Rattle.text.specs.Printed.{printed_used, text_room, text_of, refusal_of, brief_room, printed_within, printed_as, printed_bytes, RefusalWithin, RefusalLeft, TextWithin, TextLeft, brief_as, BriefLeft}
 use Rattle.text.specs.declared.Printed.{Printed}
 use Rattle.text.specs.declared.Printed.TheVariants.{Done, Short, Block}
 use Rattle.text.proofs.listing.Legible.{read_is}
@@ -28,13 +28,13 @@ module _ (n at room lent : ℕ) {zeros : Bytes} (z : zeros ≡ replicate lent 0)
   pub no_room : lent < room → RefusalWithin n at room lent zeros Short
   no_room h = record { answered = rw (lt-ltb lent room h); left = z ∙ rw (lt-ltb lent room h, sub-zero) }
 
-  pub line-left : {out : Bytes} {r : ℕ} → room ≤ lent → Follows zeros 0 (refusalOf n at) out r → RefusalWithin n at room lent out (Done r)
+  pub line-left : {out : Bytes} {r : ℕ} → room ≤ lent → Follows zeros 0 (refusal_of n at) out r → RefusalWithin n at room lent out (Done r)
   line-left h f = record {
-    answered = rw (le-ltb lent room h) (ap Done (f.behind ∙ zero-add (length (refusalOf n at))));
-    left = f.is ∙ rw (z, le-ltb lent room h) (placed-padded lent (refusalOf n at));
+    answered = rw (le-ltb lent room h) (ap Done (f.behind ∙ zero-add (length (refusal_of n at))));
+    left = f.is ∙ rw (z, le-ltb lent room h) (placed-padded lent (refusal_of n at));
   }
 
-pub every-line : {n at lent : ℕ} {out : Bytes} {r : Printed} → RefusalWithin n at textRoom lent out r → RefusalLeft n at lent out r
+pub every-line : {n at lent : ℕ} {out : Bytes} {r : Printed} → RefusalWithin n at text_room lent out r → RefusalLeft n at lent out r
 every-line l = record { answered = l.answered; left = l.left }
 
 -- ── The text of an answer ──
@@ -43,9 +43,9 @@ module _ (job block : Bytes) (answer : Answer) (room lent : ℕ) where
   -- A refusal's text is its line.
   pub refusal-left : {n at : ℕ} {out : Bytes} {r : Printed} → n ≡ number answer → at ≡ place answer → n ≢ 0 → RefusalWithin n at room lent out r →
       TextWithin job block answer room lent out r
-  refusal-left n-is at-is f l =
+  refusal-left n-is at_is f l =
       let e = ne_eqb (number answer) 0 (λ z. f (n-is ∙ z)) in
-      record { answered = l.answered ∙ rw (e, n-is, at-is); left = l.left ∙ rw (e, n-is, at-is) }
+      record { answered = l.answered ∙ rw (e, n-is, at_is); left = l.left ∙ rw (e, n-is, at_is) }
 
   -- For a network the memory holds zeros first.
   module _ {zeros : Bytes} (z : zeros ≡ replicate lent 0) (n : number answer ≡ 0) where
@@ -60,12 +60,12 @@ module _ (job block : Bytes) (answer : Answer) (room lent : ℕ) where
       }
 
       -- What is written from the front is the text.
-      pub network-left : {out : Bytes} {r : ℕ} → legible job block ≡ true → Follows zeros 0 (networkOf job block) out r →
+      pub network-left : {out : Bytes} {r : ℕ} → legible job block ≡ true → Follows zeros 0 (network_of job block) out r →
           TextWithin job block answer room lent out (Done r)
       network-left e f =
-          let xs = networkOf job block in
-          let text : text_of job block answer ≡ xs = rw (eq-eqb (number answer) 0 n) (text-read job block (read_is job block e).sampled-most) in
-          let done : printedWithin room lent job block answer ≡ Done (length (text_of job block answer)) =
+          let xs = network_of job block in
+          let text : text_of job block answer ≡ xs = rw (eq-eqb (number answer) 0 n) (text-read job block (read_is job block e).sampled_most) in
+          let done : printed_within room lent job block answer ≡ Done (length (text_of job block answer)) =
           rw (le-ltb lent room h, eq-eqb (number answer) 0 n, e) in
           record { answered = rw (done, text) (ap Done (f.behind ∙ zero-add (length xs))); left = f.is ∙ rw (z, done, text) (placed-padded lent xs) }
 
@@ -73,22 +73,22 @@ module _ (job block : Bytes) (answer : Answer) (room lent : ℕ) where
 
 -- The bytes used lie in the memory lent.
 used-within : (short other : Bool) (lent : ℕ) (xs : Bytes) → let r = cond short Short (cond other Block (Done (length xs))) in
-    printedUsed r ≤ length (padded lent (printedBytes r xs))
+    printed_used r ≤ length (padded lent (printed_bytes r xs))
 used-within true other lent xs = omega arith
 used-within false true lent xs = omega arith
 used-within false false lent xs = simp length-append (omega arith)
 
 module _ {job block : Bytes} {answer : Answer} {lent : ℕ} {out : Bytes} {r : Printed} where
-  pub every-left : TextWithin job block answer textRoom lent out r → TextLeft job block answer lent out r
-  unfolding printedAs
+  pub every-left : TextWithin job block answer text_room lent out r → TextLeft job block answer lent out r
+  unfolding printed_as
   every-left t = record { answered = t.answered; left = t.left }
 
-  pub brief-left : TextWithin job block answer (briefRoom block answer) lent out r → BriefLeft job block answer lent out r
-  unfolding briefAs
-  brief-left t = record {
+  pub brief_left : TextWithin job block answer (brief_room block answer) lent out r → BriefLeft job block answer lent out r
+  unfolding brief_as
+  brief_left t = record {
     answered = t.answered;
     left = t.left;
     within =
         rw (t.answered, t.left)
-        (used-within (ltb lent (briefRoom block answer)) (eqb (number answer) 0 && not (legible job block)) lent (text_of job block answer));
+        (used-within (ltb lent (brief_room block answer)) (eqb (number answer) 0 && not (legible job block)) lent (text_of job block answer));
   }

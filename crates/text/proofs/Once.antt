@@ -10,5 +10,5 @@ module _ {job block : Bytes} {answer : Answer} {lent : ℕ} {out out' : Bytes} {
   pub text-one : TextLeft job block answer lent out r → TextLeft job block answer lent out' r' → (out ≡ out') × (r ≡ r')
   text-one a b = (a.left ∙ sym b.left, a.answered ∙ sym b.answered)
 
-  pub brief-one : BriefLeft job block answer lent out r → BriefLeft job block answer lent out' r' → (out ≡ out') × (r ≡ r')
-  brief-one a b = (a.left ∙ sym b.left, a.answered ∙ sym b.answered)
+  pub brief_one : BriefLeft job block answer lent out r → BriefLeft job block answer lent out' r' → (out ≡ out') × (r ≡ r')
+  brief_one a b = (a.left ∙ sym b.left, a.answered ∙ sym b.answered)

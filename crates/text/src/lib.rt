@@ -6,8 +6,8 @@ pub mod template;
 
 ghost use Rattle.std.specs.Prelude.{◌≡◌, ◌≤◌, leb, length, replicate};
 ghost use Rattle.memory.specs.Placed.{Follows};
-ghost use Rattle.text.specs.Lines.{Legible, legible, networkOf};
-ghost use Rattle.text.specs.Printed.{ToldText, refusalOf, lineRoom, networkRoom, briefRoom, Suffices, RefusalWithin, RefusalLeft, TextWithin, TextLeft, BriefLeft};
+ghost use Rattle.text.specs.Lines.{Legible, legible, network_of};
+ghost use Rattle.text.specs.Printed.{ToldText, refusal_of, line_room, network_room, brief_room, Suffices, RefusalWithin, RefusalLeft, TextWithin, TextLeft, BriefLeft};
 
 use crate::listing::{put_link_lines, put_network_line, put_type_lines};
 use crate::template::fill;
@@ -63,16 +63,16 @@ fn is_legible(job: &[u8], block: &[u8]) -> bool
 
 // A refusal is one line.
 fn put_refusal(number: usize, place: usize, out: &mut [u8]) -> usize
-    requires { lineRoom ≤ length out.old }
-    ensures { Follows out.old 0 (refusalOf number place) out.new result }
+    requires { line_room ≤ length out.old }
+    ensures { Follows out.old 0 (refusal_of number place) out.new result }
 {
     let numbers = [number, place];
     fill(out, 0, b"refused \x00 \x01\n", &numbers, b"")
 }
 
 fn put_network<'a>(job: &'a [u8], block: &'a [u8], out: &mut [u8]) -> usize
-    requires { Legible job.now block.now × (networkRoom block.now ≤ length out.old) }
-    ensures { Follows out.old 0 (networkOf job.now block.now) out.new result }
+    requires { Legible job.now block.now × (network_room block.now ≤ length out.old) }
+    ensures { Follows out.old 0 (network_of job.now block.now) out.new result }
 {
     let at = put_network_line(block, out, 0);
     let at = put_type_lines(job, block, out, at);
@@ -89,7 +89,7 @@ fn make_room(room: usize, out: &mut [u8]) -> bool
 
 // The line of a refusal where so many bytes are lent. Zeros follow it to the end; without a text there are zeros throughout.
 fn refusal_within(number: usize, place: usize, room: usize, out: &mut [u8]) -> Printed
-    requires { lineRoom ≤ room }
+    requires { line_room ≤ room }
     ensures { RefusalWithin number place room (length out.old) out.new result }
 {
     if !make_room(room, out) {
@@ -141,7 +141,7 @@ pub fn text<'a>(job: &'a [u8], block: &'a [u8], answer: Answer, out: &mut [u8]) 
 
 // The bytes that are enough for the text of this answer, by the numbers of types and links that the block says.
 fn brief_room(block: &[u8], answer: Answer) -> usize
-    ensures { result ≡ briefRoom block.now answer }
+    ensures { result ≡ brief_room block.now answer }
 {
     let told = tell(answer);
     if told.number != 0 {

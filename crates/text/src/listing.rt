@@ -2,11 +2,11 @@
 // read; the lines go behind what is written.
 
 ghost use Rattle.std.specs.Prelude.{◌+◌, ◌*◌, ◌≤◌, ◌<◌, length};
-ghost use Rattle.rules.specs.Result.{recordsOffset, link_size};
+ghost use Rattle.rules.specs.Result.{records_offset, link_size};
 ghost use Rattle.rules.specs.Job.{word};
 ghost use Rattle.rules.specs.Lookup.{types_in};
 ghost use Rattle.memory.specs.Placed.{Follows};
-ghost use Rattle.text.specs.Lines.{Legible, networkLineOf, typeLineOf, typeLinesOf, linkLineOf, linkLinesOf};
+ghost use Rattle.text.specs.Lines.{Legible, network_line_of, type_line_of, type_lines_of, link_line_of, link_lines_of};
 
 use crate::template::fill;
 use lookup::states_in;
@@ -16,8 +16,8 @@ use rules::{LINK_SIZE, RECORD_SIZE, RECORDS_OFFSET};
 
 // The line of the network: types, sampled, links, rounds. What is handed back, here and below, is the place behind it.
 pub fn put_network_line(block: &[u8], out: &mut [u8], at: usize) -> usize
-    requires { (recordsOffset ≤ length block.now) × (at + length (networkLineOf block.now) ≤ length out.old) }
-    ensures { Follows out.old at (networkLineOf block.now) out.new result }
+    requires { (records_offset ≤ length block.now) × (at + length (network_line_of block.now) ≤ length out.old) }
+    ensures { Follows out.old at (network_line_of block.now) out.new result }
 {
     let numbers = [
         word_at(block, 0),
@@ -36,8 +36,8 @@ pub fn put_network_line(block: &[u8], out: &mut [u8], at: usize) -> usize
 
 // RULES 15.2: the line of a type. Job and block have one lifetime here and below, since the states are a part of either.
 fn put_type_line<'a>(job: &'a [u8], block: &'a [u8], k: usize, out: &mut [u8], at: usize) -> usize
-    requires { Legible job.now block.now × (k < types_in block.now) × (at + length (typeLineOf job.now block.now k) ≤ length out.old) }
-    ensures { Follows out.old at (typeLineOf job.now block.now k) out.new result }
+    requires { Legible job.now block.now × (k < types_in block.now) × (at + length (type_line_of job.now block.now k) ≤ length out.old) }
+    ensures { Follows out.old at (type_line_of job.now block.now k) out.new result }
 {
     let from = RECORDS_OFFSET + RECORD_SIZE * k;
     let states = states_in(job, block, k);
@@ -50,8 +50,8 @@ fn put_type_line<'a>(job: &'a [u8], block: &'a [u8], k: usize, out: &mut [u8], a
 }
 
 pub fn put_type_lines<'a>(job: &'a [u8], block: &'a [u8], out: &mut [u8], at: usize) -> usize
-    requires { Legible job.now block.now × (at + length (typeLinesOf job.now block.now) ≤ length out.old) }
-    ensures { Follows out.old at (typeLinesOf job.now block.now) out.new result }
+    requires { Legible job.now block.now × (at + length (type_lines_of job.now block.now) ≤ length out.old) }
+    ensures { Follows out.old at (type_lines_of job.now block.now) out.new result }
 {
     let t = word_at(block, 0);
     let mut at = at;
@@ -65,8 +65,8 @@ pub fn put_type_lines<'a>(job: &'a [u8], block: &'a [u8], out: &mut [u8], at: us
 
 // The line of a link: lower, higher, length. It is written part by part, since most lines are links, and marks take longer.
 fn put_link_line(block: &[u8], from: usize, out: &mut [u8], at: usize) -> usize
-    requires { (from + link_size ≤ length block.now) × (at + length (linkLineOf block.now from) ≤ length out.old) }
-    ensures { Follows out.old at (linkLineOf block.now from) out.new result }
+    requires { (from + link_size ≤ length block.now) × (at + length (link_line_of block.now from) ≤ length out.old) }
+    ensures { Follows out.old at (link_line_of block.now from) out.new result }
 {
     let at = say(out, at, b"L ", word_at(block, from));
     let at = say(out, at, b" ", word_at(block, from + 2));
@@ -75,9 +75,9 @@ fn put_link_line(block: &[u8], from: usize, out: &mut [u8], at: usize) -> usize
 }
 
 pub fn put_link_lines(block: &[u8], out: &mut [u8], at: usize) -> usize
-    requires records_offset_in_bounds { (recordsOffset ≤ length block.now) × (word block.now 14 + link_size * word block.now 6 ≤ length block.now) }
-    requires block_in_bounds { at + length (linkLinesOf block.now) ≤ length out.old }
-    ensures { Follows out.old at (linkLinesOf block.now) out.new result }
+    requires records_offset_in_bounds { (records_offset ≤ length block.now) × (word block.now 14 + link_size * word block.now 6 ≤ length block.now) }
+    requires block_in_bounds { at + length (link_lines_of block.now) ≤ length out.old }
+    ensures { Follows out.old at (link_lines_of block.now) out.new result }
 {
     let from = word_at(block, 14);
     let l = word_at(block, 6);

@@ -11,28 +11,28 @@ use lib.ListN.{length, set, length-set}
 use lib.Seq.{get_or-set_same, get_or-set_other}
 use borrow.Author.Tests.{eq-eqb, ne_eqb}
 use Rattle.links.specs.Marks.{marked}
-use Rattle.triplets.specs.Followers.{Follower, followerAt, Followers, FollowLine}
+use Rattle.triplets.specs.Followers.{Follower, follower_at, Followers, FollowLine}
 
 module _ {area : List ℕ} {n c : ℕ} where
   -- The follower at a place: past the last type, at a type that is linked, and at one that is not.
-  pub follower-none : Follower area n c n n
-  follower-none = record {
+  pub follower_none : Follower area n c n n
+  follower_none = record {
     from = omega arith;
     within = omega arith;
     none_between = λ j h l. absurd (omega arith);
     linked = λ h. absurd (omega arith);
   }
 
-  follower-here : {i : ℕ} → i < n → marked area c i ≡ true → Follower area n c i i
-  follower-here h t = record {
+  follower_here : {i : ℕ} → i < n → marked area c i ≡ true → Follower area n c i i
+  follower_here h t = record {
     from = omega arith;
     within = omega arith;
     none_between = λ j g l. absurd (omega arith);
     linked = λ l. t;
   }
 
-  follower-later : {i j r : ℕ} → i ≡ j + 1 → marked area c j ≡ false → Follower area n c i r → Follower area n c j r
-  follower-later {j = j} e t f = record {
+  follower_later : {i j r : ℕ} → i ≡ j + 1 → marked area c j ≡ false → Follower area n c i r → Follower area n c j r
+  follower_later {j = j} e t f = record {
     from = omega (arith, f.from);
     within = f.within;
     none_between = λ k h l. elim (ℕ_discrete k j) [ yes s ↦ rw s t | no other ↦ f.none_between k (omega arith) l ];
@@ -40,8 +40,8 @@ module _ {area : List ℕ} {n c : ℕ} where
   }
 
   -- No type is linked with itself.
-  pub follower-self : {r : ℕ} → Follower area n c (c + 1) r → Follower area n c c r
-  follower-self f = follower-later refl (rw (eq-eqb c c refl)) f
+  pub follower_self : {r : ℕ} → Follower area n c (c + 1) r → Follower area n c c r
+  follower_self f = follower_later refl (rw (eq-eqb c c refl)) f
 
 module _ {area : List ℕ} {n c : ℕ} where
   -- One place more, the one before those filled.
@@ -62,20 +62,20 @@ module _ {area : List ℕ} {n c : ℕ} where
   none_filled before = record { size = refl; line = λ k h l. absurd (omega arith); kept = λ d k other h. refl }
 
   pub first-filled : {before : List ℕ} → n ≤ 128 → c < n → length before ≡ 16512 → FollowLine area n c n before (set before (129 * c + n) n)
-  first-filled {before} small l room = one-filled n refl (omega arith) small l room (none_filled before) follower-none
+  first-filled {before} small l room = one-filled n refl (omega arith) small l room (none_filled before) follower_none
 
   -- What is filled since then, and what was filled before.
   pub filled-since : {before next : List ℕ} {i : ℕ} → FollowLine area n c i before next → FollowLine area n c i next next
   filled-since t = record { size = refl; line = t.line; kept = λ d k other h. refl }
 
-  pub filled-then : {before mid next : List ℕ} {i j : ℕ} → FollowLine area n c i before mid → FollowLine area n c j mid next →
+  pub filled_then : {before mid next : List ℕ} {i j : ℕ} → FollowLine area n c i before mid → FollowLine area n c j mid next →
       FollowLine area n c j before next
-  filled-then t s = record { size = s.size ∙ t.size; line = s.line; kept = λ d k other h. s.kept d k other h ∙ t.kept d k other h }
+  filled_then t s = record { size = s.size ∙ t.size; line = s.line; kept = λ d k other h. s.kept d k other h ∙ t.kept d k other h }
 
 -- A line is filled from place i on, and this is the follower there.
 pub record Filling (area : List ℕ) (n c i follower : ℕ) (before next : List ℕ) : Type 0 where
   pub within : i ≤ n
-  pub follower-is : Follower area n c i follower
+  pub follower_is : Follower area n c i follower
   pub line : FollowLine area n c i before next
 
 -- A turn of the code: the mark of the type before place i is read, the follower is that type or as it was, and one place more is filled.
@@ -85,11 +85,11 @@ pub one-turn : {area : List ℕ} {n c i r r' cell : ℕ} {before next : List ℕ
 one-turn {area} {n} {c} {i} {r' = r'} small l room h mark t which =
     let one : i ≡ i - 1 + 1 = omega arith in
     let f : Follower area n c (i - 1) r' =
-    ⊎_elim (λ w. rw w.1 (follower-here (omega (arith, t.within)) (mark ∙ eq-eqb _ _ w.0)))
-    (λ w. rw w.1 (follower-later one (mark ∙ ne_eqb _ _ w.0) t.follower-is)) which in
+    ⊎_elim (λ w. rw w.1 (follower_here (omega (arith, t.within)) (mark ∙ eq-eqb _ _ w.0)))
+    (λ w. rw w.1 (follower_later one (mark ∙ ne_eqb _ _ w.0) t.follower_is)) which in
     record {
       within = omega (arith, t.within);
-      follower-is = f;
+      follower_is = f;
       line = one-filled (i - 1) one (omega (arith, t.within)) small l room t.line f;
     }
 
@@ -97,7 +97,7 @@ one-turn {area} {n} {c} {i} {r' = r'} small l room h mark t which =
 pub record Lines (area : List ℕ) (n c : ℕ) (next : List ℕ) : Type 0 where
   pub passed : c ≤ n
   pub size : length next ≡ 16512
-  pub each : (d i : ℕ) → d < c → i ≤ n → Follower area n d i (followerAt next d i)
+  pub each : (d i : ℕ) → d < c → i ≤ n → Follower area n d i (follower_at next d i)
 
 pub no_line : (area : List ℕ) (n : ℕ) (next : List ℕ) → length next ≡ 16512 → Lines area n 0 next
 no_line area n next room = record { passed = omega arith; size = room; each = λ d i h l. absurd (omega arith) }

@@ -10,21 +10,21 @@ pub record Follower (area : List ℕ) (n c i r : ℕ) : Type 0 where
   pub linked : r < n → marked area c r ≡ true
 
 -- 128 types, and a place behind the last.
-abbrev pub followersLine : ℕ
-followersLine = 129
+abbrev pub followers_line : ℕ
+followers_line = 129
 
-abbrev pub followersSize : ℕ
-followersSize = 16512
+abbrev pub followers_size : ℕ
+followers_size = 16512
 
-abbrev pub followerAt : List ℕ → ℕ → ℕ → ℕ
-followerAt next c i = get_or next (followersLine * c + i) 0
+abbrev pub follower_at : List ℕ → ℕ → ℕ → ℕ
+follower_at next c i = get_or next (followers_line * c + i) 0
 
 pub record Followers (area : List ℕ) (n : ℕ) (next : List ℕ) : Type 0 where
-  pub size : length next ≡ followersSize
-  pub each : (c i : ℕ) → c < n → i ≤ n → Follower area n c i (followerAt next c i)
+  pub size : length next ≡ followers_size
+  pub each : (c i : ℕ) → c < n → i ≤ n → Follower area n c i (follower_at next c i)
 
 -- Line c is filled from place i on; the other lines are as they were.
 pub record FollowLine (area : List ℕ) (n c i : ℕ) (before after : List ℕ) : Type 0 where
   pub size : length after ≡ length before
-  pub line : (k : ℕ) → i ≤ k → k ≤ n → Follower area n c k (followerAt after c k)
-  pub kept : (d k : ℕ) → d ≢ c → k < followersLine → followerAt after d k ≡ followerAt before d k
+  pub line : (k : ℕ) → i ≤ k → k ≤ n → Follower area n c k (follower_at after c k)
+  pub kept : (d k : ℕ) → d ≢ c → k < followers_line → follower_at after d k ≡ follower_at before d k

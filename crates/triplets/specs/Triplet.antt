@@ -4,17 +4,17 @@ use Rattle.distances.specs.Area.{cell_at}
 use Rattle.triplets.specs.declared.Triplet.{Triplet}
 
 -- Types c, a and b in order, where a is below b.
-abbrev pub inOrder : ℕ → ℕ → ℕ → Triplet
-inOrder c a b = cond (ltb c a) (record { u = c; v = a; w = b }) (cond (ltb c b) (record { u = a; v = c; w = b }) (record { u = a; v = b; w = c }))
+abbrev pub in_order : ℕ → ℕ → ℕ → Triplet
+in_order c a b = cond (ltb c a) (record { u = c; v = a; w = b }) (cond (ltb c b) (record { u = a; v = c; w = b }) (record { u = a; v = b; w = c }))
 
 -- More than any cost: what stands for no cost at all.
-abbrev pub noCost : ℕ
-noCost = 200000
+abbrev pub no_cost : ℕ
+no_cost = 200000
 
 -- Half the sum of the three distances; where a type lies between the other two, more than any cost.
-abbrev pub costFloor : List ℕ → Triplet → ℕ
-costFloor area t =
+abbrev pub cost_floor : List ℕ → Triplet → ℕ
+cost_floor area t =
     let uv = cell_at area t.u t.v in
     let uw = cell_at area t.u t.w in
     let vw = cell_at area t.v t.w in
-    cond (eqb (uv + vw) uw || eqb (uv + uw) vw || eqb (uw + vw) uv) noCost ((uv + uw + vw) / 2)
+    cond (eqb (uv + vw) uw || eqb (uv + uw) vw || eqb (uw + vw) uv) no_cost ((uv + uw + vw) / 2)

@@ -3,8 +3,8 @@
 // whoever guesses checks. So nothing is promised here but that a guess is one of those numbers.
 
 ghost use Rattle.std.specs.Prelude.{◌≡◌, ℕ, ◌+◌, ◌*◌, ◌≤◌, ◌<◌, length, get_or};
-ghost use Rattle.triplets.specs.Mismatches.{hintsSize};
-ghost use Rattle.rules.specs.Sizes.{mostWidth, mostTypes, rowSize};
+ghost use Rattle.triplets.specs.Mismatches.{hints_size};
+ghost use Rattle.rules.specs.Sizes.{most_width, most_types, row_size};
 
 use memory::eight_at;
 use rules::ROW;
@@ -33,7 +33,7 @@ struct Planes {
 
 // The planes of row i, eight characters at a time.
 fn planes_of(states: &[u8], m: usize, i: usize) -> Planes
-    requires { (m ≤ mostWidth) × (rowSize * i + rowSize ≤ length states.now) }
+    requires { (m ≤ most_width) × (row_size * i + row_size ≤ length states.now) }
 {
     let mut ones = 0u64;
     let mut twos = 0u64;
@@ -59,7 +59,7 @@ fn planes_of(states: &[u8], m: usize, i: usize) -> Planes
 // Where the row with these planes is looked for: in the table behind the planes. (A prime that is not close to a power of 2 mixes
 // well, and dividing by this one takes few steps.)
 fn slot_of(p: Planes) -> usize
-    ensures { result < hintsSize }
+    ensures { result < hints_size }
 {
     let twos = (p.twos << 16) | (p.twos >> 48);
     let fours = (p.fours << 32) | (p.fours >> 32);
@@ -69,8 +69,8 @@ fn slot_of(p: Planes) -> usize
 
 // The hints of row i: its planes, and its number in their slot.
 fn hint(states: &[u8], hints: &mut [u64], m: usize, i: usize)
-    requires { (m ≤ mostWidth) × (i < mostTypes) × (rowSize * i + rowSize ≤ length states.now) × (length hints.old ≡ hintsSize) }
-    ensures { length hints.new ≡ hintsSize }
+    requires { (m ≤ most_width) × (i < most_types) × (row_size * i + row_size ≤ length states.now) × (length hints.old ≡ hints_size) }
+    ensures { length hints.new ≡ hints_size }
 {
     let p = planes_of(states, m, i);
     hints[4 * i] = p.ones;
@@ -82,8 +82,8 @@ fn hint(states: &[u8], hints: &mut [u64], m: usize, i: usize)
 
 // What guesses go by: four planes of bits for each row, and a table from their mix to a row. May hold any numbers.
 pub fn hints(states: &[u8], hints: &mut [u64], m: usize, made: usize)
-    requires { (m ≤ mostWidth) × (made ≤ mostTypes) × (rowSize * made ≤ length states.now) × (length hints.old ≡ hintsSize) }
-    ensures { length hints.new ≡ hintsSize }
+    requires { (m ≤ most_width) × (made ≤ most_types) × (row_size * made ≤ length states.now) × (length hints.old ≡ hints_size) }
+    ensures { length hints.new ≡ hints_size }
 {
     let mut i = 0;
     while i < made {
@@ -94,7 +94,7 @@ pub fn hints(states: &[u8], hints: &mut [u64], m: usize, made: usize)
 
 // The planes that are kept of row i.
 fn planes_kept(hints: &[u64], i: usize) -> Planes
-    requires { (i < mostTypes) × (hintsSize ≤ length hints.now) }
+    requires { (i < most_types) × (hints_size ≤ length hints.now) }
 {
     Planes {
         ones: hints[4 * i],
@@ -111,8 +111,8 @@ fn mixed(first: u64, second: u64, k: u64) -> u64 {
 
 // A guess which row has the states of row v in the characters of k, and those of row u in the others: one of the numbers in the table.
 pub fn guess(hints: &[u64], u: usize, v: usize, k: u64) -> usize
-    requires { (u < mostTypes) × (v < mostTypes) × (hintsSize ≤ length hints.now) }
-    ensures { (at : ℕ) × (at < hintsSize) × (result ≡ get_or hints.now at 0) }
+    requires { (u < most_types) × (v < most_types) × (hints_size ≤ length hints.now) }
+    ensures { (at : ℕ) × (at < hints_size) × (result ≡ get_or hints.now at 0) }
 {
     let p = planes_kept(hints, u);
     let q = planes_kept(hints, v);

@@ -7,9 +7,9 @@ pub mod mismatches;
 pub mod settled;
 
 ghost use Rattle.std.specs.Prelude.{◌≡◌, ◌+◌, ◌≤◌, ◌<◌, length};
-ghost use Rattle.rules.specs.Sizes.{mostTypes, distanceArea};
-ghost use Rattle.triplets.specs.Followers.{Follower, FollowLine, Followers, followersSize};
-ghost use Rattle.triplets.specs.Triplet.{inOrder, costFloor};
+ghost use Rattle.rules.specs.Sizes.{most_types, distance_area};
+ghost use Rattle.triplets.specs.Followers.{Follower, FollowLine, Followers, followers_size};
+ghost use Rattle.triplets.specs.Triplet.{in_order, cost_floor};
 
 use rules::{LINE, MOST_TYPES};
 
@@ -32,7 +32,7 @@ pub struct Triplet {
 // Line c of the table above place c: at place i the first type from i on that is linked with type c, or n where none is. Types above
 // c have their marks down column c. Hands back the first of them that is linked with c.
 fn follow_above(area: &[u16], next: &mut [u16], n: usize, c: usize) -> u16
-    requires { (n ≤ mostTypes) × (c < n) × (distanceArea ≤ length area.now) × (length next.old ≡ followersSize) }
+    requires { (n ≤ most_types) × (c < n) × (distance_area ≤ length area.now) × (length next.old ≡ followers_size) }
     ensures { Follower area.now n c (c + 1) result
         × FollowLine area.now n c (c + 1) next.old next.new }
 {
@@ -52,7 +52,7 @@ fn follow_above(area: &[u16], next: &mut [u16], n: usize, c: usize) -> u16
 
 // The rest of line c, whose follower behind place c is known. Types below c have their marks along line c of the area.
 fn follow_below(area: &[u16], next: &mut [u16], n: usize, c: usize, above: u16)
-    requires { (n ≤ mostTypes) × (c < n) × (distanceArea ≤ length area.now) × (length next.old ≡ followersSize)
+    requires { (n ≤ most_types) × (c < n) × (distance_area ≤ length area.now) × (length next.old ≡ followers_size)
         × Follower area.now n c (c + 1) above × FollowLine area.now n c (c + 1) next.old next.old }
     ensures { FollowLine area.now n c 0 next.old next.new }
 {
@@ -72,7 +72,7 @@ fn follow_below(area: &[u16], next: &mut [u16], n: usize, c: usize, above: u16)
 
 // For each of n types, and each place, the first type from there on that is linked with it; 129 places to a type.
 pub fn followers(area: &[u16], next: &mut [u16], n: usize)
-    requires { (n ≤ mostTypes) × (distanceArea ≤ length area.now) × (length next.old ≡ followersSize) }
+    requires { (n ≤ most_types) × (distance_area ≤ length area.now) × (length next.old ≡ followers_size) }
     ensures { Followers area.now n next.new }
 {
     let mut c = 0;
@@ -85,7 +85,7 @@ pub fn followers(area: &[u16], next: &mut [u16], n: usize)
 
 // The triplet of types c, a and b, where a is below b.
 pub fn in_order(c: usize, a: usize, b: usize) -> Triplet
-    ensures { result ≡ inOrder c a b }
+    ensures { result ≡ in_order c a b }
 {
     if c < a {
         Triplet { u: c, v: a, w: b }
@@ -99,8 +99,8 @@ pub fn in_order(c: usize, a: usize, b: usize) -> Triplet
 // No candidate of a triplet costs less than this, by its distances: half their sum. Where one type lies between the other two it is
 // their only median vector, and there is no candidate: more than any cost.
 pub fn cost_floor(area: &[u16], t: Triplet) -> usize
-    requires { (t.u < mostTypes) × (t.v < mostTypes) × (t.w < mostTypes) × (distanceArea ≤ length area.now) }
-    ensures { result ≡ costFloor area.now t }
+    requires { (t.u < most_types) × (t.v < most_types) × (t.w < most_types) × (distance_area ≤ length area.now) }
+    ensures { result ≡ cost_floor area.now t }
 {
     let u = t.u;
     let v = t.v;

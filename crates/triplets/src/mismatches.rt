@@ -2,8 +2,8 @@
 // state area. Mismatches are kept once they are known, in lent memory that has a number for every two rows.
 
 ghost use Rattle.std.specs.Prelude.{◌≡◌, false, not, ◌+◌, ◌*◌, ◌≤◌, ◌<◌, eqb, length};
-ghost use Rattle.rules.specs.Sizes.{mostWidth, rowSize};
-ghost use Rattle.triplets.specs.Mismatches.{bit, mismatchesIn, Unused, Narrow, PairTable};
+ghost use Rattle.rules.specs.Sizes.{most_width, row_size};
+ghost use Rattle.triplets.specs.Mismatches.{bit, mismatches_in, Unused, Narrow, PairTable};
 
 use rules::{LINE, MOST_WIDTH, ROW};
 
@@ -13,7 +13,7 @@ pub const UNKNOWN: u64 = 18446744073709551614;
 
 // Whether a row made holds a state in character c.
 fn in_use(states: &[u8], made: usize, c: usize) -> bool
-    requires { (c < mostWidth) × (rowSize * made ≤ length states.now) }
+    requires { (c < most_width) × (row_size * made ≤ length states.now) }
     ensures { result ≡ false → Unused states.now made c }
 {
     let mut i = 0;
@@ -28,7 +28,7 @@ fn in_use(states: &[u8], made: usize, c: usize) -> bool
 
 // How many characters are in use: from here on every row made holds zeros.
 pub fn width_in_use(states: &[u8], made: usize) -> usize
-    requires { rowSize * made ≤ length states.now }
+    requires { row_size * made ≤ length states.now }
     ensures { Narrow states.now made result }
 {
     let mut m = MOST_WIDTH;
@@ -50,8 +50,8 @@ fn unlike(x: u8, y: u8) -> u64
 
 // The mismatches of rows i and j, of m characters.
 fn find_mismatches(states: &[u8], m: usize, i: usize, j: usize) -> u64
-    requires { (m ≤ mostWidth) × (rowSize * i + rowSize ≤ length states.now) × (rowSize * j + rowSize ≤ length states.now) }
-    ensures { result ≡ mismatchesIn states.now m i j }
+    requires { (m ≤ most_width) × (row_size * i + row_size ≤ length states.now) × (row_size * j + row_size ≤ length states.now) }
+    ensures { result ≡ mismatches_in states.now m i j }
 {
     let first = ROW * i;
     let second = ROW * j;
@@ -74,7 +74,7 @@ pub fn mismatches_of(
     j: usize,
 ) -> u64
     requires { PairTable states.now m made mismatches.old × (i < made) × (j < made) }
-    ensures { (result ≡ mismatchesIn states.now m i j) × PairTable states.now m made mismatches.new
+    ensures { (result ≡ mismatches_in states.now m i j) × PairTable states.now m made mismatches.new
         × (length mismatches.new ≡ length mismatches.old) }
 {
     let kept = mismatches[LINE * i + j];

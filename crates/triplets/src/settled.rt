@@ -3,9 +3,9 @@
 // by its mismatches with two of the types. Which row to try is guessed by the table of hints.
 
 ghost use Rattle.std.specs.Prelude.{◌≡◌, true, ◌*◌, ◌≤◌, ◌<◌, length};
-ghost use Rattle.rules.specs.Sizes.{mostTypes, rowSize};
-ghost use Rattle.triplets.specs.Mismatches.{Narrow, Cached, PairTable, hintsSize};
-ghost use Rattle.triplets.specs.Settled.{aloneIn, Mixed, PairsOf, Settled};
+ghost use Rattle.rules.specs.Sizes.{most_types, row_size};
+ghost use Rattle.triplets.specs.Mismatches.{Narrow, Cached, PairTable, hints_size};
+ghost use Rattle.triplets.specs.Settled.{alone_in, Mixed, PairsOf, Settled};
 
 use crate::Triplet;
 use crate::hints::{HINTS, guess};
@@ -23,7 +23,7 @@ fn is_made(
     v: usize,
     k: u64,
 ) -> bool
-    requires { PairTable states.now m made mismatches.old × (hintsSize ≤ length hints.now) × (u < made) × (v < made) }
+    requires { PairTable states.now m made mismatches.old × (hints_size ≤ length hints.now) × (u < made) × (v < made) }
     ensures { (result ≡ true → Mixed states.now m made u v k) × PairTable states.now m made mismatches.new
         × (length mismatches.new ≡ length mismatches.old) }
 {
@@ -66,7 +66,7 @@ fn pairs_of(states: &[u8], mismatches: &mut [u64], m: usize, made: usize, t: Tri
 
 // Where the first of three rows differs from both others, and these agree.
 fn alone(uv: u64, uw: u64, vw: u64) -> u64
-    ensures { result ≡ aloneIn uv uw vw }
+    ensures { result ≡ alone_in uv uw vw }
 {
     let both = uv & uw;
     both - (both & vw)
@@ -82,7 +82,7 @@ fn three_made(
     t: Triplet,
     p: Pairs,
 ) -> bool
-    requires { Narrow states.now made m × PairTable states.now m made mismatches.old × (hintsSize ≤ length hints.now)
+    requires { Narrow states.now made m × PairTable states.now m made mismatches.old × (hints_size ≤ length hints.now)
         × (t.u < made) × (t.v < made) × (t.w < made) × PairsOf states.now m t p }
     ensures { (result ≡ true → Settled states.now made t) × PairTable states.now m made mismatches.new
         × (length mismatches.new ≡ length mismatches.old) }
@@ -108,7 +108,7 @@ pub fn settled(
     made: usize,
     t: Triplet,
 ) -> bool
-    requires { Narrow states.now made m × Cached states.now m made mismatches.old × (made ≤ mostTypes) × (rowSize * made ≤ length states.now)
+    requires { Narrow states.now made m × Cached states.now m made mismatches.old × (made ≤ most_types) × (row_size * made ≤ length states.now)
         × (t.u < made) × (t.v < made) × (t.w < made) }
     ensures { (result ≡ true → Settled states.now made t) × Cached states.now m made mismatches.new
         × (length mismatches.new ≡ length mismatches.old) }

@@ -5,8 +5,8 @@ pub mod sample;
 
 ghost use Rattle.std.specs.Prelude.{◌≡◌, ◌+◌, ◌*◌, ◌≤◌, length, replicate};
 ghost use Rattle.graph.specs.Below.{first};
-ghost use Rattle.rules.specs.Sizes.{mostTypes, rowSize};
-ghost use Rattle.rules.specs.Types.{sameRow};
+ghost use Rattle.rules.specs.Sizes.{most_types, row_size};
+ghost use Rattle.rules.specs.Types.{is_same_row};
 ghost use Rattle.types.specs.State.{stored_at, blank};
 
 use memory::{copy, eight_at};
@@ -14,7 +14,7 @@ use rules::{Kind, MOST_TYPES, Origin, ROW};
 
 // The row of type i, as it is stored.
 pub fn row_at(states: &[u8], i: usize) -> [u8; ROW]
-    requires { rowSize * i + rowSize ≤ length states.now }
+    requires { row_size * i + row_size ≤ length states.now }
     ensures { result ≡ stored_at states.now i }
 {
     let from = ROW * i;
@@ -25,8 +25,8 @@ pub fn row_at(states: &[u8], i: usize) -> [u8; ROW]
 
 // Whether type i of the state area has this row: eight bytes are compared at once.
 pub fn same_row(states: &[u8], i: usize, row: &[u8; ROW]) -> bool
-    requires { rowSize * i + rowSize ≤ length states.now }
-    ensures { result ≡ sameRow (stored_at states.now i) row.now }
+    requires { row_size * i + row_size ≤ length states.now }
+    ensures { result ≡ is_same_row (stored_at states.now i) row.now }
 {
     let at = ROW * i;
     // as a slice, the row is known to have 64 bytes
@@ -43,8 +43,8 @@ pub fn same_row(states: &[u8], i: usize, row: &[u8; ROW]) -> bool
 
 // The first of t types that has this row, or t where none does.
 pub fn find_row(states: &[u8], t: usize, row: &[u8; ROW]) -> usize
-    requires { rowSize * t ≤ length states.now }
-    ensures { result ≡ first t (λ i. sameRow (stored_at states.now i) row.now) }
+    requires { row_size * t ≤ length states.now }
+    ensures { result ≡ first t (λ i. is_same_row (stored_at states.now i) row.now) }
 {
     let mut i = 0;
     while i < t {
@@ -58,7 +58,7 @@ pub fn find_row(states: &[u8], t: usize, row: &[u8; ROW]) -> usize
 
 // Room for 128 kinds, none of them in use.
 pub fn no_kinds() -> [Kind; MOST_TYPES]
-    ensures { result ≡ replicate mostTypes blank }
+    ensures { result ≡ replicate most_types blank }
 {
     [Kind {
         origin: Origin::Sampled { rows: 0, first: 0 },

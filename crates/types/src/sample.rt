@@ -2,11 +2,11 @@
 // state area.
 
 ghost use Rattle.std.specs.Prelude.{◌≡◌, ◌≤◌, ◌<◌, length};
-ghost use Rattle.rules.specs.Sizes.{mostRows, stateArea};
+ghost use Rattle.rules.specs.Sizes.{most_rows, state_area};
 ghost use Rattle.rules.specs.Answers.{number};
 ghost use Rattle.rules.specs.Job.{rows, width, checked};
-ghost use Rattle.rules.specs.Types.{rowCount};
-ghost use Rattle.types.specs.State.{single, oneMore};
+ghost use Rattle.rules.specs.Types.{row_count};
+ghost use Rattle.types.specs.State.{single, one_more};
 ghost use Rattle.types.specs.Collapse.{Collapsed};
 
 use crate::{find_row, no_kinds};
@@ -32,8 +32,8 @@ fn single(k: usize) -> Kind
 
 // A sampled type with one row more.
 fn one_more(kind: Kind) -> Kind
-    requires { rowCount kind.origin < mostRows }
-    ensures { result ≡ oneMore kind }
+    requires { row_count kind.origin < most_rows }
+    ensures { result ≡ one_more kind }
 {
     let origin = kind.origin;
     match origin {
@@ -49,7 +49,7 @@ fn one_more(kind: Kind) -> Kind
 
 // RULES 5.1, 5.2: rows become sampled types, each at its first row.
 pub fn collapse(job: &[u8], states: &mut [u8], n: usize, m: usize) -> Sample
-    requires { (number (checked job.now) ≡ 0) × (n ≡ rows job.now) × (m ≡ width job.now) × (stateArea ≤ length states.old) }
+    requires { (number (checked job.now) ≡ 0) × (n ≡ rows job.now) × (m ≡ width job.now) × (state_area ≤ length states.old) }
     ensures { Collapsed job.now states.old states.new result }
 {
     let mut kinds = no_kinds();

@@ -2,14 +2,14 @@
 use Prim.Native.Nat.{◌-◌, ◌≤◌}
 use native.Mathlib.Omega.{arith}
 use mathlib.Core.Path.{refl}
-use Rattle.distances.specs.Area.{CellsWritten, New, storedApart}
-use Rattle.distances.proofs.Area.{Passed, byColumn, part-passed, all-passed}
+use Rattle.distances.specs.Area.{CellsWritten, New, stored_apart}
+use Rattle.distances.proofs.Area.{Passed, by_column, part-passed, all-passed}
 use Rattle.distances.proofs.measure.Statement.{statement}
 use Rattle.distances.proofs.measure.Tie as tie
 
 abbrev invariant-loop : tie.invariant-loop
 invariant-loop states area₀ weights from to j₀ area j =
-    (from ≤ j) × CellsWritten (Passed byColumn (New from to) j) (storedApart weights states) area₀ area
+    (from ≤ j) × CellsWritten (Passed by_column (New from to) j) (stored_apart weights states) area₀ area
 
 abbrev decreases-loop : tie.decreases-loop
 decreases-loop states area₀ weights from to j₀ area j = to - j

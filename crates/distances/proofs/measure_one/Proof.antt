@@ -1,13 +1,13 @@
 -- `distances::measure_one` meets its contract: the cells of type j are passed line by line.
 use Prim.Native.Nat.{◌+◌, ◌-◌}
 use native.Mathlib.Omega.{arith}
-use Rattle.distances.specs.Area.{CellsWritten, New, storedApart}
-use Rattle.distances.proofs.Area.{Passed, byLine, cell-passed, all-passed}
+use Rattle.distances.specs.Area.{CellsWritten, New, stored_apart}
+use Rattle.distances.proofs.Area.{Passed, by_line, cell-passed, all-passed}
 use Rattle.distances.proofs.measure_one.Statement.{statement}
 use Rattle.distances.proofs.measure_one.Tie as tie
 
 abbrev invariant-loop : tie.invariant-loop
-invariant-loop states area₀ weights j i₀ area i = CellsWritten (Passed byLine (New j (j + 1)) i) (storedApart weights states) area₀ area
+invariant-loop states area₀ weights j i₀ area i = CellsWritten (Passed by_line (New j (j + 1)) i) (stored_apart weights states) area₀ area
 
 abbrev decreases-loop : tie.decreases-loop
 decreases-loop states area₀ weights j i₀ area i = j - i

@@ -7,31 +7,31 @@ use lib.ListN.{length}
 use borrow.Author.Tests.{lt-ltb, le-ltb}
 use Rattle.graph.proofs.Below.{first-is}
 use Rattle.rules.specs.Job.{Bytes}
-use Rattle.fasta.specs.Answers.{refuses, noFault}
+use Rattle.fasta.specs.Answers.{refuses, no_fault}
 use Rattle.fasta.specs.declared.conversion.Conversion.{Conversion}
 use Rattle.fasta.specs.Sequences.{opened}
-use Rattle.fasta.specs.Refusals.{faultAt, firstFault}
-use Rattle.fasta.specs.Read.{lengthsTo, ReadAll}
+use Rattle.fasta.specs.Refusals.{fault_at, first_fault}
+use Rattle.fasta.specs.Read.{lengths_to, ReadAll}
 use Rattle.fasta.proofs.alignment.Faults.{Clear}
 
 -- Reading ends at the first fault, or behind the last byte.
 module _ (text : Bytes) where
-  first-fault : (i : ℕ) → i < length text → Clear text i → refuses (faultAt text i) ≡ true → firstFault text ≡ i
-  unfolding firstFault
+  first-fault : (i : ℕ) → i < length text → Clear text i → refuses (fault_at text i) ≡ true → first_fault text ≡ i
+  unfolding first_fault
   first-fault i h clear t = first-is _ _ i (omega arith) clear (λ l. t)
 
-  pub no-first-fault : Clear text (length text) → firstFault text ≡ length text
-  unfolding firstFault
-  no-first-fault clear = first-is _ _ (length text) (omega arith) clear (λ l. absurd (omega arith))
+  pub no_first-fault : Clear text (length text) → first_fault text ≡ length text
+  unfolding first_fault
+  no_first-fault clear = first-is _ _ (length text) (omega arith) clear (λ l. absurd (omega arith))
 
-  pub read-fault : {lengths : Bytes} {r : Conversion} {begun : ℕ} (i : ℕ) → i < length text → Clear text i → r ≡ faultAt text i → refuses r ≡ true →
-      begun ≡ opened text i → lengths ≡ lengthsTo text i → ReadAll text lengths (record { answer = r; begun = begun })
+  pub read-fault : {lengths : Bytes} {r : Conversion} {begun : ℕ} (i : ℕ) → i < length text → Clear text i → r ≡ fault_at text i → refuses r ≡ true →
+      begun ≡ opened text i → lengths ≡ lengths_to text i → ReadAll text lengths (record { answer = r; begun = begun })
   read-fault i h clear f t b l =
       let e = first-fault i h clear (rw f at t) in
-      record { answer-is = rw (e, lt-ltb i (length text) h) f; begun-is = rw e b; lengths-are = rw e l }
+      record { answer_is = rw (e, lt-ltb i (length text) h) f; begun_is = rw e b; lengths_are = rw e l }
 
   pub read_whole : {lengths : Bytes} {begun : ℕ} (i : ℕ) → i ≡ length text → Clear text i →
-      begun ≡ opened text i → lengths ≡ lengthsTo text i → ReadAll text lengths (record { answer = noFault; begun = begun })
+      begun ≡ opened text i → lengths ≡ lengths_to text i → ReadAll text lengths (record { answer = no_fault; begun = begun })
   read_whole i h clear b l =
-      let e = no-first-fault (rw h at clear) in
-      record { answer-is = rw (e, le-ltb (length text) (length text) (omega arith)); begun-is = b ∙ rw (e, h); lengths-are = l ∙ rw (e, h) }
+      let e = no_first-fault (rw h at clear) in
+      record { answer_is = rw (e, le-ltb (length text) (length text) (omega arith)); begun_is = b ∙ rw (e, h); lengths_are = l ∙ rw (e, h) }

@@ -9,28 +9,28 @@ use borrow.Author.Tests.{ltb-true, ltb-false, eqb-true, eqb-false, not-false}
 use Rattle.graph.specs.Below.{first}
 use Rattle.graph.proofs.Below.{first-before}
 use Rattle.rules.specs.Job.{Bytes}
-use Rattle.fasta.specs.Answers.{refuses, noFault}
+use Rattle.fasta.specs.Answers.{refuses, no_fault}
 use Rattle.fasta.specs.declared.conversion.Conversion.TheVariants.{Empty, Uneven}
-use Rattle.fasta.proofs.conversion.Answers.{not-no-size}
+use Rattle.fasta.proofs.conversion.Answers.{not_no_size}
 use Rattle.fasta.specs.Sequences.{sequences, sequence}
-use Rattle.fasta.specs.Refusals.{faultAt, firstFault, firstEmpty, firstUneven, checkedText}
+use Rattle.fasta.specs.Refusals.{fault_at, first_fault, first_empty, first_uneven, checked_text}
 use Rattle.fasta.proofs.alignment.Faults.{Clear, fault-there, all-clear, few-opened, few-states}
 
 -- Each test of the text passes it.
 record Tested (text : Bytes) : Type 0 where
-  faultless : ltb (firstFault text) (length text) ≡ false
+  faultless : ltb (first_fault text) (length text) ≡ false
   begun : eqb (sequences text) 0 ≡ false
-  filled : ltb (firstEmpty text) (sequences text) ≡ false
-  alike : ltb (firstUneven text) (sequences text) ≡ false
+  filled : ltb (first_empty text) (sequences text) ≡ false
+  alike : ltb (first_uneven text) (sequences text) ≡ false
 
-tested : (text : Bytes) → refuses (checkedText text) ≡ false → Tested text
-unfolding checkedText
+tested : (text : Bytes) → refuses (checked_text text) ≡ false → Tested text
+unfolding checked_text
 tested text e =
-    let at = firstFault text in
-    let s1 = not-no-size (ltb at (length text)) (faultAt text at) _ e (λ t. fault-there text (ltb-true at (length text) t)) in
-    let s2 = not-no-size (eqb (sequences text) 0) (Empty 0) _ s1.1 (λ t. refl) in
-    let s3 = not-no-size (ltb (firstEmpty text) (sequences text)) (Empty (firstEmpty text)) _ s2.1 (λ t. refl) in
-    let s4 = not-no-size (ltb (firstUneven text) (sequences text)) (Uneven (firstUneven text)) noFault s3.1 (λ t. refl) in
+    let at = first_fault text in
+    let s1 = not_no_size (ltb at (length text)) (fault_at text at) _ e (λ t. fault-there text (ltb-true at (length text) t)) in
+    let s2 = not_no_size (eqb (sequences text) 0) (Empty 0) _ s1.1 (λ t. refl) in
+    let s3 = not_no_size (ltb (first_empty text) (sequences text)) (Empty (first_empty text)) _ s2.1 (λ t. refl) in
+    let s4 = not_no_size (ltb (first_uneven text) (sequences text)) (Uneven (first_uneven text)) no_fault s3.1 (λ t. refl) in
     record { faultless = s1.0; begun = s2.0; filled = s3.0; alike = s4.0 }
 
 -- Where the first of n that passes is not below n, none does.
@@ -41,12 +41,12 @@ pub record Readable (text : Bytes) : Type 0 where
   pub clear : Clear text (length text)
   pub some : 1 ≤ sequences text
   pub few : sequences text ≤ 256
-  pub some-width : 1 ≤ length (sequence text 0)
+  pub some_width : 1 ≤ length (sequence text 0)
   pub narrow : length (sequence text 0) ≤ 64
   pub even : (k : ℕ) → k < sequences text → length (sequence text k) ≡ length (sequence text 0)
 
-pub readable : (text : Bytes) → refuses (checkedText text) ≡ false → Readable text
-unfolding firstEmpty firstUneven
+pub readable : (text : Bytes) → refuses (checked_text text) ≡ false → Readable text
+unfolding first_empty first_uneven
 readable text e =
     let t = tested text e in
     let n = sequences text in
@@ -58,7 +58,7 @@ readable text e =
       clear = faultless;
       some = one;
       few = few-opened text (length text) faultless;
-      some-width = omega (arith, eqb-false (length (sequence text 0)) 0 (filled 0 one));
+      some_width = omega (arith, eqb-false (length (sequence text 0)) 0 (filled 0 one));
       narrow = few-states text (length text) 0 faultless;
       even = λ k h. eqb-true (length (sequence text k)) (length (sequence text 0)) (not-false _ (alike k h));
     }

@@ -4,7 +4,7 @@ use Prim.Native.Nat.{◌≤◌}
 use native.Mathlib.Omega.{arith}
 use lib.ListN.{length}
 use borrow.Author.Rules.{rules}
-use Rattle.fasta.specs.Converted.{jobRoom}
+use Rattle.fasta.specs.Converted.{job_room}
 use Rattle.fasta.proofs.Left.{Sized, sized, short-left, refusal-left, job-left}
 use Rattle.fasta.proofs.make_job.Statement.{statement}
 use Rattle.fasta.proofs.make_job.Tie as tie
@@ -13,7 +13,7 @@ use Rattle.fasta.proofs.make_job.Tie as tie
 abbrev entry : tie.Else1 → tie.Start
 entry c = c.before.before.before.before.before.before.before
 
-enough : (c : tie.Else1) → jobRoom ≤ length (entry c).args.job.now
+enough : (c : tie.Else1) → job_room ≤ length (entry c).args.job.now
 enough c = rw c.before.before.before.clear-bytes.auto.0 at c.if1.false
 
 -- What is known once the text is not refused.
@@ -33,7 +33,7 @@ returns-2 : tie.Need-returns-2
 returns-2 c =
     let t = c.before.before in
     let room = t.before.before in
-    refusal-left _ _ _ room.before.before.before.clear-bytes.ensures (enough room) t.before.size-of-job.ensures.answer-is
+    refusal-left _ _ _ room.before.before.before.clear-bytes.ensures (enough room) t.before.size-of-job.ensures.answer_is
     (λ e. c.if2.true (t.tell-conversion.ensures.number_is ∙ e))
 
 mul-states : tie.Need-overflow-mul-states

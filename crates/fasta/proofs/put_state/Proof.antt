@@ -5,11 +5,11 @@ use native.Mathlib.Omega.{arith}
 use borrow.Author.Rules.{rules}
 use borrow.Author.Tests.{not-true, not-false}
 use Rattle.memory.proofs.Follows.{follows-none, follows-stored}
-use Rattle.fasta.specs.Lines.{isState}
+use Rattle.fasta.specs.Lines.{is_state}
 use Rattle.fasta.proofs.put_state.Statement.{statement}
 use Rattle.fasta.proofs.put_state.Tie as tie
 
-state : (c : tie.Else1) → let a = c.before.before.before.before.args in isState a.text.now a.i ≡ true
+state : (c : tie.Else1) → let a = c.before.before.before.before.args in is_state a.text.now a.i ≡ true
 state c = sym c.before.is_state.ensures ∙ not-false _ c.if1.false
 
 returns : tie.Need-returns

@@ -4,23 +4,23 @@ use Prim.Native.Nat.{◌-◌, ◌≤◌}
 use native.Mathlib.Omega.{arith}
 use lib.ListN.{length}
 use Rattle.graph.specs.Below.{gather}
-use Rattle.fasta.specs.Lines.{lineStart}
+use Rattle.fasta.specs.Lines.{line_start}
 use Rattle.fasta.specs.Sequences.{states}
 use Rattle.memory.specs.Placed.{Follows}
 use Rattle.memory.proofs.Follows.{follows-none, follows-more, follows-room}
-use Rattle.fasta.proofs.Written.{stateAt}
+use Rattle.fasta.proofs.Written.{state_at}
 use Rattle.fasta.proofs.put_states.Statement.{statement}
 use Rattle.fasta.proofs.put_states.Tie as tie
 
 abbrev invariant-loop : tie.invariant-loop
 invariant-loop text job₀ at to₀ line₀ i₀ job to line i =
-    (line ≡ lineStart text i) × (i ≤ length text) × (length job ≡ length job₀) × Follows job₀ at (gather i (stateAt text)) job to
+    (line ≡ line_start text i) × (i ≤ length text) × (length job ≡ length job₀) × Follows job₀ at (gather i (state_at text)) job to
 
 abbrev decreases-loop : tie.decreases-loop
 decreases-loop text job₀ at to₀ line₀ i₀ job to line i = length text - i
 
 loop-holds : tie.Need-loop-init invariant-loop decreases-loop
-unfolding lineStart gather
+unfolding line_start gather
 loop-holds c = (refl, omega arith, refl, follows-none _ _)
 
 put-state-requires : tie.Need-put-state-requires invariant-loop decreases-loop
@@ -30,7 +30,7 @@ put-state-requires c κs =
     let l = i.before in
     let s = l.before.before.before in
     let text = s.args.text.now in
-    let room = follows-room (stateAt text) l.loop.i l.loop.invariant.3 (length text) i.loop-test.true s.requires in
+    let room = follows-room (state_at text) l.loop.i l.loop.invariant.3 (length text) i.loop-test.true s.requires in
     (record { starts = l.loop.invariant.0; within = i.loop-test.true }, omega (arith, room))
 
 next-line-requires : tie.Need-next-line-requires invariant-loop decreases-loop
@@ -45,7 +45,7 @@ loop-again c =
       c.next-line.ensures,
       omega arith,
       omega arith,
-      follows-more (stateAt s.args.text.now) l.loop.i l.loop.invariant.3 (omega (arith, s.requires)) p.put-state.ensures,
+      follows-more (state_at s.args.text.now) l.loop.i l.loop.invariant.3 (omega (arith, s.requires)) p.put-state.ensures,
     )
 
 returns : tie.Need-returns invariant-loop decreases-loop

@@ -4,13 +4,13 @@ use Prim.Native.Nat.{◌-◌, ◌≤◌}
 use native.Mathlib.Omega.{arith}
 use lib.ListN.{length}
 use Rattle.memory.specs.Placed.{placed}
-use Rattle.fasta.specs.Block.{weightsOf}
+use Rattle.fasta.specs.Block.{weights_of}
 use Rattle.fasta.proofs.Written.{weights-none, weights-more}
 use Rattle.fasta.proofs.put_weights.Statement.{statement}
 use Rattle.fasta.proofs.put_weights.Tie as tie
 
 abbrev invariant-loop : tie.invariant-loop
-invariant-loop m job₀ c₀ job c = (c ≤ m) × (length job ≡ length job₀) × (job ≡ placed job₀ 12 (weightsOf c))
+invariant-loop m job₀ c₀ job c = (c ≤ m) × (length job ≡ length job₀) × (job ≡ placed job₀ 12 (weights_of c))
 
 abbrev decreases-loop : tie.decreases-loop
 decreases-loop m job₀ c₀ job c = m - c

@@ -34,14 +34,14 @@ use Rattle.answers.proofs.tell.Symbol as tell-def
 use Rattle.answers.proofs.tell.Met as tell-thm
 use Rattle.network.proofs.call.Symbol as call-def
 use Rattle.network.proofs.call.Met as call-thm
-use Rattle.network.proofs.Areas.{Areas, lfts, shares, refs, vals, areas-of}
-use Rattle.service.proofs.Calling.{Call, Leaves, Before, After, calls-call}
+use Rattle.network.proofs.Areas.{Areas, lfts, shares, refs, vals, areas_of}
+use Rattle.service.proofs.Calling.{Call, Leaves, Before, After, calls_call}
 use Rattle.byhand.proofs.Lend.{value, well_typed}
-use Rattle.byhand.proofs.Locals.{Cells, enters, frees-locals}
-use Rattle.byhand.proofs.Meets.{Params, shared-param, given-param, Walk, Start, ends_with, meets}
+use Rattle.byhand.proofs.Locals.{Cells, enters, frees_locals}
+use Rattle.byhand.proofs.Meets.{Params, shared_param, given_param, Walk, Start, ends_with, meets}
 use Rattle.byhand.proofs.Told.{Told, calls-told}
-use Rattle.byhand.proofs.Body.{Blocks, env, reslices, unslices, whole-arg}
-use Rattle.hurdlesong_c.proofs.Interface.{call-told}
+use Rattle.byhand.proofs.Body.{Blocks, env, reslices, unslices, whole_arg}
+use Rattle.hurdlesong_c.proofs.Interface.{call_told}
 use Rattle.hurdlesong_c.specs.contracts.hurdlesong_call as call'
 use Rattle.hurdlesong_c.specs.contracts.hurdlesong_call.Key as key
 use Rattle.hurdlesong_c.proofs.hurdlesong_call.Statement as stated
@@ -50,7 +50,7 @@ use Rattle.hurdlesong_c.proofs.hurdlesong_call.Code.Mir as body
 
 -- Of the job nothing is had at exit.
 abbrev params : Params call'.ended
-params = (shared-param 0 tt u8, (given-param 1 tt u8, (given-param 2 tt u8, (given-param 3 tt u16, (given-param 4 tt L.the_row, tt)))))
+params = (shared_param 0 tt u8, (given_param 1 tt u8, (given_param 2 tt u8, (given_param 3 tt u16, (given_param 4 tt L.the_row, tt)))))
 
 module _ {M : Type 1} {𝓤 : Ura M} (𝓛 : Logic 𝓤) (mem : Memory → SProp 𝓤) (run : Routine → Fun 𝓤) where
   open 𝓛 use {H}
@@ -77,7 +77,7 @@ module _ {M : Type 1} {𝓤 : Ura M} (𝓛 : Logic 𝓤) (mem : Memory → SProp
         -- [true; links; its token; distances; its token; states; its token; result; its token; the job's token]
         move ! (9 ∷ 8 ∷ 6 ∷ 4 ∷ 2 ∷ 0 ∷ 7 ∷ 5 ∷ 3 ∷ []) $ ends_with ! call'.ended params (call'.clauses 𝓛 mem run) y w t
         (tt, (z.result', (z.states', (z.distances', (z.links', tt))))) (tt, (z.result-long, (z.states-long, (z.distances-long, (z.links-long, tt)))))
-        (fact_i 𝓤 _ (emp 𝓤) (call-told z.called told)) (LS.makes Tld.the_type Tld'.the_plain 𝓛 t (w ∷ []) is)
+        (fact_i 𝓤 _ (emp 𝓤) (call_told z.called told)) (LS.makes Tld.the_type Tld'.the_plain 𝓛 t (w ∷ []) is)
 
     -- The locals: the result of `hurdlesong_call`, the five slices, and the answer. Those behind them hold something only around one call. Local j stands
     -- at 5 + j.
@@ -95,8 +95,8 @@ module _ {M : Type 1} {𝓤 : Ura M} (𝓛 : Logic 𝓤) (mem : Memory → SProp
       calls : ((w : Val) (z : Leaves x) → Is Ans.the_row z.answer (w ∷ []) → Runs (After x z (Cells 𝓛 En (values (w ∷ [])))) body.t-10) → Runs (Before x (Cells 𝓛 En (values []))) body.t-1
       calls k =
           reslices ! 7 12 refl result.fits $ reslices ! 8 14 refl states.fits $ reslices ! 9 16 refl distances.fits $
-          reslices ! 10 18 refl links.fits $ calls-call x 𝓛 mem run (fm_of 𝓤 H 𝓛.laws 𝓣) known-call !
-          (whole-arg ! 2 refl (whole-arg ! 9 refl (whole-arg ! 11 refl (whole-arg ! 13 refl (whole-arg ! 15 refl (no_more !)))))) (λ w z is.
+          reslices ! 10 18 refl links.fits $ calls_call x 𝓛 mem run (fm_of 𝓤 H 𝓛.laws 𝓣) known-call !
+          (whole_arg ! 2 refl (whole_arg ! 9 refl (whole_arg ! 11 refl (whole_arg ! 13 refl (whole_arg ! 15 refl (no_more !)))))) (λ w z is.
           land ! (from ! (stop !)) (init ! 11 refl ((Le.lawful Ans.the_type Ans'.the_laws 𝓛 tt).typed z.answer _ is).0) $
           unslices ! 12 refl $ unslices ! 14 refl $ unslices ! 16 refl $ unslices ! 18 refl $ k w z is)
 
@@ -105,9 +105,9 @@ module _ {M : Type 1} {𝓤 : Ura M} (𝓛 : Logic 𝓤) (mem : Memory → SProp
       tells w z is =
           owned ! Ans.the_row (Is Ans.the_row) (Le.makes Ans.the_type Ans'.the_plain 𝓛) z.answer (w ∷ []) is $
           calls-told 𝓛 (fm_of 𝓤 H 𝓛.laws 𝓣) tell'.ended (tell'.clauses 𝓛 mem run) known-tell tt tt tt (z.answer, tt) (w ∷ [], tt) tt !
-          (λ t us. ToldOf z.answer t) (id⊢ 𝓤 _) (λ _ _. id⊢ 𝓤 _) (whole-arg ! 12 refl (no_more !)) (λ w' t us told is'.
+          (λ t us. ToldOf z.answer t) (id⊢ 𝓤 _) (λ _ _. id⊢ 𝓤 _) (whole_arg ! 12 refl (no_more !)) (λ w' t us told is'.
           land ! (from ! (stop !)) (init ! 5 refl ((LS.lawful Tld.the_type Tld'.the_laws 𝓛).typed t _ is').0) $ returns ! (look ! 5 refl) $
-          forget ! 5 refl $ frees-locals ! 5 En (values (w ∷ [])) refl $ exits w' z t told is')
+          forget ! 5 refl $ frees_locals ! 5 En (values (w ∷ [])) refl $ exits w' z t told is')
 
     walk : Sq 𝓛 (Start 𝓛 call'.ended y.0) (prop (WpFn 𝓤 H 𝓣.C 𝓣.Λ code.function (CallC.args y) Post))
     walk =
@@ -117,11 +117,11 @@ module _ {M : Type 1} {𝓤 : Ura M} (𝓛 : Logic 𝓤) (mem : Memory → SProp
         move ! (9 ∷ 4 ∷ []) $ join ! $ move ! (8 ∷ 4 ∷ []) $ join ! $ move ! (7 ∷ 4 ∷ []) $ join ! $ move ! (6 ∷ 4 ∷ []) $ join ! $
         move ! (5 ∷ 4 ∷ []) $ join ! $ calls bs (tells bs))
 
-pub hurdlesong-call-spec : {M : Type 1} → stated.statement M
+pub hurdlesong_call_spec : {M : Type 1} → stated.statement M
 unfolding code.routine tables_of
-hurdlesong-call-spec 𝓤 𝓛 𝓜 𝓡 =
+hurdlesong_call_spec 𝓤 𝓛 𝓜 𝓡 =
     let known-call = cited 𝓤 𝓛.H _ 𝓜 𝓡 code.env call-def.name call-def.routine code.calls-network::call (call-thm.met 𝓤 𝓛 𝓜 𝓡) in
     let known-tell = cited 𝓤 𝓛.H _ 𝓜 𝓡 code.env tell-def.name tell-def.routine code.calls-answers::tell (tell-thm.met 𝓤 𝓛 𝓜 𝓡) in
     meets 𝓛 𝓜 𝓡 call'.ended params (call'.clauses 𝓛 𝓜.mem 𝓡.run) code.env key.name code.function (code.unfolded 𝓤 𝓛.H 𝓜 𝓡)
     (λ κs qs bounds a g are. drop ! $ walk 𝓛 𝓜.mem 𝓡.run (tables_of 𝓤 𝓛.H 𝓜 (tables 𝓤 𝓛.H 𝓜 𝓡 code.env)) known-call known-tell
-    (areas-of κs qs a are))
+    (areas_of κs qs a are))

@@ -8,7 +8,7 @@ use lib.Dec.{ltb, eqb}
 use lib.ListN.{length}
 use borrow.Author.Tests.{le-ltb, eq-eqb, ne_eqb}
 use Rattle.rules.specs.Answers.{when◌refuse◌else◌, passed}
-use Rattle.rules.specs.Job.{Bytes, word, outside, badWeight, badState, checked}
+use Rattle.rules.specs.Job.{Bytes, word, outside, bad_weight, bad_state, checked}
 use Rattle.rules.specs.declared.Answer.{Answer}
 use Rattle.rules.specs.declared.Answer.TheVariants.{Layout, Weight, State}
 use Rattle.rules.proofs.Job.{inside}
@@ -29,8 +29,8 @@ told low high e is t = rw (← is) (sym e ∙ t)
 -- WEIGHT and STATE.
 abbrev contents : Bytes → ℕ → ℕ → Answer
 contents job n m =
-    when ltb (badWeight job) m refuse Weight (badWeight job) else
-    when ltb (badState job) (n * m) refuse State (badState job) else
+    when ltb (bad_weight job) m refuse Weight (bad_weight job) else
+    when ltb (bad_state job) (n * m) refuse State (bad_state job) else
     passed
 
 -- LAYOUT, and what is tried behind it.
@@ -46,14 +46,14 @@ module _ {job : Bytes} {n m : ℕ} where
   pub sized : Sized job n m → checked job ≡ layout job n m
   unfolding checked
   sized s =
-      let r = inside 1 256 n s.some-rows s.few-rows in
-      let w = inside 1 64 m s.some-width s.small_width in
+      let r = inside 1 256 n s.some_rows s.few_rows in
+      let w = inside 1 64 m s.some_width s.small_width in
       rw (le-ltb _ _ s.head, ← s.rows_are, r, ← s.width_is, w)
 
   pub few-states : Sized job n m → n * m ≤ 16384
-  few-states s = omega (arith, mul-le-mul_right m s.few-rows)
+  few-states s = omega (arith, mul-le-mul_right m s.few_rows)
 
   pub laid_out : LaidOut job n m → checked job ≡ contents job n m
   laid_out l =
       sized l.sized
-      ∙ rw (eq-eqb _ _ l.weights-field, eq-eqb _ _ l.states-field, eq-eqb _ _ l.whole-field, eq-eqb _ _ l.whole)
+      ∙ rw (eq-eqb _ _ l.weights_field, eq-eqb _ _ l.states_field, eq-eqb _ _ l.whole_field, eq-eqb _ _ l.whole)

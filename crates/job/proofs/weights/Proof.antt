@@ -4,7 +4,7 @@ use Prim.Native.Nat.{ℕ, ◌-◌, ◌≤◌, ◌<◌}
 use native.Mathlib.Omega.{arith}
 use lib.ListN.{replicate}
 use Rattle.graph.specs.Below.{table}
-use Rattle.rules.specs.Job.{width, weightAt, weights}
+use Rattle.rules.specs.Job.{width, weight_at, weights}
 use Rattle.rules.specs.Call.{padded}
 use Rattle.memory.specs.Placed.{placed}
 use Rattle.memory.proofs.Placed.{placed-none, placed-padded, table-front}
@@ -13,7 +13,7 @@ use Rattle.job.proofs.weights.Statement.{statement}
 use Rattle.job.proofs.weights.Tie as tie
 
 abbrev invariant-loop : tie.invariant-loop
-invariant-loop job m w₀ c₀ w c = (c ≤ m) × (w ≡ placed (replicate 64 0) 0 (table c (weightAt job)))
+invariant-loop job m w₀ c₀ w c = (c ≤ m) × (w ≡ placed (replicate 64 0) 0 (table c (weight_at job)))
 
 abbrev decreases-loop : tie.decreases-loop
 decreases-loop job m w₀ c₀ w c = m - c
@@ -45,7 +45,7 @@ loop-again c =
     let l = c.before.before.loop in
     let s = c.before.before.before.before in
     let h : l.c < 64 = omega (arith, within s) in
-    (omega arith, table-front (replicate 64 0) l.w l.c c.word_at.result (weightAt s.args.job.now) h l.invariant.1 c.word_at.ensures.is)
+    (omega arith, table-front (replicate 64 0) l.w l.c c.word_at.result (weight_at s.args.job.now) h l.invariant.1 c.word_at.ensures.is)
 
 returns : tie.Need-returns invariant-loop decreases-loop
 unfolding weights
@@ -53,7 +53,7 @@ returns c =
     let l = c.before.loop in
     let job = c.before.before.before.args.job.now in
     let e : l.c ≡ width job = omega arith in
-    l.invariant.1 ∙ placed-padded 64 (table l.c (weightAt job)) ∙ ap (λ (n : ℕ). padded 64 (table n (weightAt job))) e
+    l.invariant.1 ∙ placed-padded 64 (table l.c (weight_at job)) ∙ ap (λ (n : ℕ). padded 64 (table n (weight_at job))) e
 
 pub weights-spec : {M : Type 1} → statement M
 weights-spec =

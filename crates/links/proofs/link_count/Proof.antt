@@ -3,7 +3,7 @@ use mathlib.Core.Path.{◌≡◌}
 use mathlib.Core.Logic.{⊎_elim}
 use Prim.Native.Nat.{◌-◌, ◌≤◌, ◌<◌, min}
 use native.Mathlib.Omega.{arith}
-use Rattle.links.proofs.Marks.{Counted, counted-at, counted-more, counted-self, counted-all}
+use Rattle.links.proofs.Marks.{Counted, counted-at, counted-more, counted_self, counted-all}
 use Rattle.links.proofs.link_count.Statement.{statement}
 use Rattle.links.proofs.link_count.Tie as tie
 
@@ -21,7 +21,7 @@ loop-holds : tie.Need-loop-init invariant-loop decreases-loop
 loop-holds c =
     let a = c.before.before.before.args in
     let m : c.before.if1.before ≡ min a.i a.n = ⊎_elim (λ t. omega arith) (λ t. omega arith) c.before.if1.branch in
-    (omega arith, counted-self (counted-at (rw m at c.links-before.ensures)))
+    (omega arith, counted_self (counted-at (rw m at c.links-before.ensures)))
 
 loop-again : tie.Need-loop-preserved invariant-loop decreases-loop
 loop-again c = (omega arith, counted-more _ c.before.before.before.loop.invariant.1 (omega arith) c.one.ensures)

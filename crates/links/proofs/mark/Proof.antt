@@ -2,14 +2,14 @@
 use Prim.Native.Nat.{◌-◌}
 use native.Mathlib.Omega.{arith}
 use Rattle.distances.specs.Area.{CellsWritten}
-use Rattle.distances.proofs.Area.{Passed, byLine, cell-kept, part-passed, all-passed}
+use Rattle.distances.proofs.Area.{Passed, by_line, cell-kept, part-passed, all-passed}
 use Rattle.spans.specs.Tree.{Mirror}
 use Rattle.links.specs.Marks.{mark}
 use Rattle.links.proofs.mark.Statement.{statement}
 use Rattle.links.proofs.mark.Tie as tie
 
 abbrev invariant-loop : tie.invariant-loop
-invariant-loop area₀ spans n epsilon j₀ area j = CellsWritten (Passed byLine (Mirror n) j) (mark epsilon spans area₀) area₀ area
+invariant-loop area₀ spans n epsilon j₀ area j = CellsWritten (Passed by_line (Mirror n) j) (mark epsilon spans area₀) area₀ area
 
 abbrev decreases-loop : tie.decreases-loop
 decreases-loop area₀ spans n epsilon j₀ area j = n - j

@@ -2,13 +2,13 @@
 use Prim.Native.Nat.{◌-◌}
 use native.Mathlib.Omega.{arith}
 use Rattle.distances.specs.Area.{CellsWritten, Line}
-use Rattle.distances.proofs.Area.{Passed, byColumn, cell-kept, cell-passed, all-passed}
+use Rattle.distances.proofs.Area.{Passed, by_column, cell-kept, cell-passed, all-passed}
 use Rattle.links.specs.Marks.{mark}
 use Rattle.links.proofs.mark_line.Statement.{statement}
 use Rattle.links.proofs.mark_line.Tie as tie
 
 abbrev invariant-loop : tie.invariant-loop
-invariant-loop area₀ spans epsilon j from i₀ area i = CellsWritten (Passed byColumn (Line j j) i) (mark epsilon spans area₀) area₀ area
+invariant-loop area₀ spans epsilon j from i₀ area i = CellsWritten (Passed by_column (Line j j) i) (mark epsilon spans area₀) area₀ area
 
 abbrev decreases-loop : tie.decreases-loop
 decreases-loop area₀ spans epsilon j from i₀ area i = j - i

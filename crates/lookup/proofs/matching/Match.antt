@@ -10,24 +10,24 @@ use borrow.Author.Tests.{leb-true, eqb-true, eqb-false, not-true, not-false}
 use Rattle.graph.proofs.Below.{is_false}
 use Rattle.rules.specs.Answers.{number}
 use Rattle.rules.specs.Job.{Bytes, word, width, checked}
-use Rattle.rules.specs.Result.{recordsOffset, rowsOffset, linksOffset}
-use Rattle.rules.specs.Lookup.{types_in, sampledTypes, headerFits}
+use Rattle.rules.specs.Result.{records_offset, rows_offset, links_offset}
+use Rattle.rules.specs.Lookup.{types_in, sampled_types, header_fits}
 use Rattle.rules.proofs.Job.{Passed, passed_is}
 use Rattle.lookup.specs.Match.{matches}
 
 -- The header of a block of width m with t types, s of them sampled: every test of it, by name.
 pub record Header (m : ℕ) (block : Bytes) (t s : ℕ) : Type 0 where
   pub head : 16 ≤ length block
-  pub sampled-most : s ≤ t
+  pub sampled_most : s ≤ t
   pub few : t ≤ 128
   pub some : 1 ≤ s
-  pub width-field : word block 4 ≡ m
-  pub records-field : word block 10 ≡ recordsOffset
-  pub rows-field : word block 12 ≡ rowsOffset t
-  pub links-field : word block 14 ≡ linksOffset t s m
-  pub reaches : linksOffset t s m ≤ length block
+  pub width_field : word block 4 ≡ m
+  pub records_field : word block 10 ≡ records_offset
+  pub rows_field : word block 12 ≡ rows_offset t
+  pub links_field : word block 14 ≡ links_offset t s m
+  pub reaches : links_offset t s m ≤ length block
 
-header_is : {m : ℕ} {block : Bytes} {t s : ℕ} → headerFits m block t s ≡ true → Header m block t s
+header_is : {m : ℕ} {block : Bytes} {t s : ℕ} → header_fits m block t s ≡ true → Header m block t s
 header_is e =
     let s9 = (and-eq-true_iff _ _).0 e in
     let s8 = (and-eq-true_iff _ _).0 s9.0 in
@@ -39,18 +39,18 @@ header_is e =
     let s2 = (and-eq-true_iff _ _).0 s3.0 in
     record {
       head = leb-true _ _ s2.0;
-      sampled-most = leb-true _ _ s2.1;
+      sampled_most = leb-true _ _ s2.1;
       few = leb-true _ _ s3.1;
       some = leb-true _ _ s4.1;
-      width-field = eqb-true _ _ s5.1;
-      records-field = eqb-true _ _ s6.1;
-      rows-field = eqb-true _ _ s7.1;
-      links-field = eqb-true _ _ s8.1;
+      width_field = eqb-true _ _ s5.1;
+      records_field = eqb-true _ _ s6.1;
+      rows_field = eqb-true _ _ s7.1;
+      links_field = eqb-true _ _ s8.1;
       reaches = leb-true _ _ s9.1;
     }
 
 -- A block without such a header fails the test.
-pub no_header : (m : ℕ) (block : Bytes) (t s : ℕ) → (Header m block t s → ⊥) → false ≡ headerFits m block t s
+pub no_header : (m : ℕ) (block : Bytes) (t s : ℕ) → (Header m block t s → ⊥) → false ≡ header_fits m block t s
 no_header m block t s h = sym (is_false _ (λ e. h (header_is e)))
 
 -- A field that was read and held against what it must be, where only the test is kept: what that says of the field itself.
@@ -64,7 +64,7 @@ differs is t e = eqb-false _ _ (not-true _ t) (is ∙ e)
 pub record Matched (job block : Bytes) : Type 0 where
   pub pass : number (checked job) ≡ 0
   pub passed : Passed job
-  pub header : Header (width job) block (types_in block) (sampledTypes block)
+  pub header : Header (width job) block (types_in block) (sampled_types block)
 
 pub matched-is : (job block : Bytes) → matches job block ≡ true → Matched job block
 matched-is job block e =

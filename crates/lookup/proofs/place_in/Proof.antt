@@ -4,7 +4,7 @@ use native.Mathlib.Nat.{mul-le-mul}
 use native.Mathlib.Omega.{arith}
 use borrow.Author.Rules.{rules}
 use Rattle.lookup.proofs.matching.Match.{Matched, matched-is}
-use Rattle.lookup.proofs.Rows.{past, sampled-out, sampled-row, inferred-out, inferred-row}
+use Rattle.lookup.proofs.Rows.{past, sampled_out, sampled-row, inferred_out, inferred-row}
 use Rattle.lookup.proofs.place_in.Statement.{statement}
 use Rattle.lookup.proofs.place_in.Tie as tie
 
@@ -34,7 +34,7 @@ word-at-requires-5 : tie.Need-word-at-requires-5
 word-at-requires-5 c κs = omega (arith, (matched c.before.before.before.before.before.before).passed.head)
 
 returns-2 : tie.Need-returns-2
-returns-2 c = sampled-out _ _ _ (search) (omega arith) (omega arith) (omega arith)
+returns-2 c = sampled_out _ _ _ (search) (omega arith) (omega arith) (omega arith)
 
 mul-at-2 : tie.Need-overflow-mul-at-2
 mul-at-2 c = omega (arith, small c.before.before.before)
@@ -46,7 +46,7 @@ returns-3 : tie.Need-returns-3
 returns-3 c = sampled-row _ _ _ (search) (omega arith) (omega arith) (search) (search) (omega arith)
 
 returns-4 : tie.Need-returns-4
-returns-4 c = inferred-out _ _ _ (search) (omega arith) (omega arith) (omega arith)
+returns-4 c = inferred_out _ _ _ (search) (omega arith) (omega arith) (omega arith)
 
 mul-at-4 : tie.Need-overflow-mul-at-4
 mul-at-4 c = omega (arith, small c.before.before)

@@ -7,7 +7,7 @@ use lib.ListN.{get_or}
 use borrow.Author.Tests.{not-true, not-false}
 use Rattle.rules.proofs.Median.{gap}
 use Rattle.rules.proofs.Between.{again}
-use Rattle.medians.proofs.Costed.{Costed, none-costed, one-costed, costed-small, all-costed, gap_differ, gap-agree, again-differ, again-agree}
+use Rattle.medians.proofs.Costed.{Costed, none_costed, one_costed, costed_small, all_costed, gap_differ, gap-agree, again-differ, again-agree}
 use Rattle.medians.proofs.connection.Statement.{statement}
 use Rattle.medians.proofs.connection.Tie as tie
 
@@ -28,7 +28,7 @@ light : (l : tie.At-loop invariant-loop decreases-loop) → l.loop.c < 64 → we
 light l h = l.before.requires.0.at_most l.loop.c h
 
 small : (l : tie.At-loop invariant-loop decreases-loop) → l.loop.cost ≤ 2000 * l.loop.c
-small l = costed-small _ _ _ _ _ l.before.requires.0 _ _ l.loop.invariant
+small l = costed_small _ _ _ _ _ l.before.requires.0 _ _ l.loop.invariant
 
 -- What is added by the first test, and by the second.
 first-added : (j : tie.Joined1 invariant-loop decreases-loop) →
@@ -37,18 +37,18 @@ first-added : (j : tie.Joined1 invariant-loop decreases-loop) →
 first-added j =
     ⊎_elim (λ w. gap_differ _ _ _ _ _ w.0.taken w.2) (λ w. gap-agree _ _ _ _ _ w.0.left w.1) j.if1.branch
 
-then-added : (c : tie.Joined2-2 invariant-loop decreases-loop) →
+then_added : (c : tie.Joined2-2 invariant-loop decreases-loop) →
     let l = c.before.before.before.before.before.before in
     let s = l.before.args in
     c.if2.cost ≡ c.before.if1.cost + again (weight l) (state l s.u) (state l s.v) (state l s.w)
-then-added c =
+then_added c =
     ⊎_elim
     (λ w. again-differ _ _ _ _ _ _ w.0.taken (not-true _ w.1.taken) w.4)
     (λ w. again-agree _ _ _ _ _ _ (⊎_map (λ z. (z.0.taken, not-false _ z.1.left)) (λ z. z.left) w.0.came) w.1)
     c.if2.branch
 
 loop-holds : tie.Need-loop-init invariant-loop decreases-loop
-loop-holds c = none-costed _ _ _ _ _
+loop-holds c = none_costed _ _ _ _ _
 
 cast-cost : tie.Need-overflow-cast-cost invariant-loop decreases-loop
 cast-cost c = omega (arith, light c.before.before.before.before.before.before (omega arith))
@@ -72,7 +72,7 @@ add-cost-2 c =
 loop-again : tie.Need-loop-preserved invariant-loop decreases-loop
 loop-again c =
     let l = c.before.before.before.before.before.before in
-    one-costed _ _ _ _ _ l.loop.c _ _ (omega arith) l.loop.invariant (omega (arith, first-added c.before, then-added c))
+    one_costed _ _ _ _ _ l.loop.c _ _ (omega arith) l.loop.invariant (omega (arith, first-added c.before, then_added c))
 
 cast-result : tie.Need-overflow-cast-result invariant-loop decreases-loop
 cast-result c = omega (arith, small c.before)
@@ -80,7 +80,7 @@ cast-result c = omega (arith, small c.before)
 returns : tie.Need-returns invariant-loop decreases-loop
 returns c =
     let l = c.before in
-    all-costed _ _ _ _ _ l.before.requires.0 l.loop.c _ l.before.requires.1 (omega arith) l.loop.invariant
+    all_costed _ _ _ _ _ l.before.requires.0 l.loop.c _ l.before.requires.1 (omega arith) l.loop.invariant
 
 pub connection-spec : {M : Type 1} → statement M
 connection-spec =

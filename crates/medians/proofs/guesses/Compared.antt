@@ -10,7 +10,7 @@ use borrow.Author.Count.{below_none, below_more}
 use borrow.Author.Tests.{eqb-true, eq-eqb}
 use Rattle.graph.proofs.Below.{same_tests}
 use Rattle.rules.specs.Job.{Bytes}
-use Rattle.rules.specs.Types.{sameRow}
+use Rattle.rules.specs.Types.{is_same_row}
 use Rattle.rules.proofs.Rows.{same_row}
 
 module _ (a b : Bytes) where
@@ -19,8 +19,8 @@ module _ (a b : Bytes) where
     pub few : others ≤ c
     pub none_other : (others ≡ 0) ↔ ((k : ℕ) → k < c → get_or a k 0 ≡ get_or b k 0)
 
-  pub none-compared : Compared 0 0
-  none-compared = record { passed = omega arith; few = omega arith; none_other = (λ e. below_none _, λ e. refl) }
+  pub none_compared : Compared 0 0
+  none_compared = record { passed = omega arith; few = omega arith; none_other = (λ e. below_none _, λ e. refl) }
 
   -- One byte more: in which the rows agree, and in which they differ.
   module _ {c others : ℕ} (h : c < 64) (t : Compared c others) where
@@ -39,10 +39,10 @@ module _ (a b : Bytes) where
     }
 
   -- No byte differs exactly if the rows are the same.
-  pub all-compared : length a ≡ 64 → length b ≡ 64 → (c others : ℕ) → 64 ≤ c → Compared c others → eqb others 0 ≡ sameRow a b
-  all-compared la lb c others h t =
+  pub all_compared : length a ≡ 64 → length b ≡ 64 → (c others : ℕ) → 64 ≤ c → Compared c others → eqb others 0 ≡ is_same_row a b
+  all_compared la lb c others h t =
       let same : c ≡ 64 = omega (arith, t.passed) in
-      same_tests (eqb others 0) (sameRow a b)
+      same_tests (eqb others 0) (is_same_row a b)
       (λ e. (same_row a b).1
       (ext_get_or 0 a b (la ∙ sym lb) (λ k l. t.none_other.0 (eqb-true others 0 e) k (omega arith))))
       (λ e. eq-eqb others 0 (t.none_other.1 (λ k l. ap (λ (x : Bytes). get_or x k 0) ((same_row a b).0 e))))

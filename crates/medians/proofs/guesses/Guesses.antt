@@ -5,12 +5,12 @@ use native.Mathlib.Numerals.{add-one}
 use lib.ListN.{replicate, set}
 use Rattle.rules.specs.Job.{Bytes}
 use Rattle.types.specs.State.{stored_at}
-use Rattle.medians.specs.Guesses.{slot_of, guessesOf}
+use Rattle.medians.specs.Guesses.{slot_of, guesses_of}
 
-pub guesses-none : (states : Bytes) → replicate 4096 256 ≡ guessesOf states 0
-unfolding guessesOf
-guesses-none states = refl
+pub guesses_none : (states : Bytes) → replicate 4096 256 ≡ guesses_of states 0
+unfolding guesses_of
+guesses_none states = refl
 
-pub guesses-more : (states : Bytes) (i : ℕ) → set (guessesOf states i) (slot_of (stored_at states i)) i ≡ guessesOf states (i + 1)
-unfolding guessesOf
-guesses-more states i = rw (add-one i)
+pub guesses_more : (states : Bytes) (i : ℕ) → set (guesses_of states i) (slot_of (stored_at states i)) i ≡ guesses_of states (i + 1)
+unfolding guesses_of
+guesses_more states i = rw (add-one i)

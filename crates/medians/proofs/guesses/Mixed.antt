@@ -15,12 +15,12 @@ use Rattle.medians.specs.Guesses.{slot_of}
 abbrev pub weight : ℕ → ℕ
 weight c = 13 * c * c + 4801
 
-pub square-small : (c : ℕ) → c < 64 → 13 * c * c ≤ 51597
-square-small c h = mul-le-mul {n₁ = 13 * c} {m₁ = c} {n₂ = 819} {m₂ = 63} (omega arith) (omega arith)
+pub square_small : (c : ℕ) → c < 64 → 13 * c * c ≤ 51597
+square_small c h = mul-le-mul {n₁ = 13 * c} {m₁ = c} {n₂ = 819} {m₂ = 63} (omega arith) (omega arith)
 
-pub term-small : (x c : ℕ) → Fits w8 x → c < 64 → x * weight c ≤ 14381490
-term-small x c l h =
-    mul-le-mul {n₁ = x} {m₁ = weight c} {n₂ = 255} {m₂ = 56398} (omega arith) (omega (arith, square-small c h))
+pub term_small : (x c : ℕ) → Fits w8 x → c < 64 → x * weight c ≤ 14381490
+term_small x c l h =
+    mul-le-mul {n₁ = x} {m₁ = weight c} {n₂ = 255} {m₂ = 56398} (omega arith) (omega (arith, square_small c h))
 
 -- The sum of the first c bytes: of none, of one more, and of all 64.
 pub record Mixed (row : Bytes) (c s : ℕ) : Type 0 where
@@ -28,19 +28,19 @@ pub record Mixed (row : Bytes) (c s : ℕ) : Type 0 where
   pub so_far : s ≡ sum c (λ k. get_or row k 0 * weight k)
   pub small : s ≤ 14381490 * c
 
-pub none-mixed : (row : Bytes) → Mixed row 0 0
+pub none_mixed : (row : Bytes) → Mixed row 0 0
 unfolding sum
-none-mixed row = record { passed = omega arith; so_far = refl; small = omega arith }
+none_mixed row = record { passed = omega arith; so_far = refl; small = omega arith }
 
-pub one-mixed : (row : Bytes) (c s : ℕ) → c < 64 → Fits w8 (get_or row c 0) → Mixed row c s → Mixed row (c + 1) (s + get_or row c 0 * weight c)
-one-mixed row c s h l t = record {
+pub one_mixed : (row : Bytes) (c s : ℕ) → c < 64 → Fits w8 (get_or row c 0) → Mixed row c s → Mixed row (c + 1) (s + get_or row c 0 * weight c)
+one_mixed row c s h l t = record {
   passed = omega arith;
   so_far = rw (sum_more, t.so_far);
-  small = omega (arith, t.small, term-small (get_or row c 0) c l h);
+  small = omega (arith, t.small, term_small (get_or row c 0) c l h);
 }
 
-pub all-mixed : (row : Bytes) (c s : ℕ) → 64 ≤ c → Mixed row c s → s % 4096 ≡ slot_of row
+pub all_mixed : (row : Bytes) (c s : ℕ) → 64 ≤ c → Mixed row c s → s % 4096 ≡ slot_of row
 unfolding slot_of
-all-mixed row c s h t =
+all_mixed row c s h t =
     let all : c ≡ 64 = omega (arith, t.passed) in
     ap (λ (x : ℕ). x % 4096) (rw all at t.so_far)

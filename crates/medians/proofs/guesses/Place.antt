@@ -11,18 +11,18 @@ use lib.Dec.{ltb}
 use lib.ListN.{get_or, take, drop}
 use borrow.Author.Tests.{ltb-true, lt-ltb, le-ltb}
 use Rattle.graph.specs.Below.{sum, first}
-use Rattle.graph.proofs.Below.{same_tests, first-le, first-before, first-hits}
+use Rattle.graph.proofs.Below.{same_tests, first_le, first-before, first-hits}
 use Rattle.rules.specs.Job.{Bytes}
-use Rattle.rules.specs.Types.{sameRow}
+use Rattle.rules.specs.Types.{is_same_row}
 use Rattle.rules.proofs.Rows.{same_row}
 use Rattle.types.specs.State.{stored_at}
-use Rattle.medians.specs.Guesses.{row_of, known_at, slot_of, rightGuess}
+use Rattle.medians.specs.Guesses.{row_of, known_at, slot_of, right_guess}
 use Rattle.medians.proofs.guesses.Mixed.{weight}
 
 -- A guess has one of 4096 places.
-pub slot-few : (row : Bytes) → slot_of row < 4096
+pub slot_few : (row : Bytes) → slot_of row < 4096
 unfolding slot_of
-slot-few row = mod-lt (sum 64 (λ c. get_or row c 0 * weight c)) (omega arith)
+slot_few row = mod-lt (sum 64 (λ c. get_or row c 0 * weight c)) (omega arith)
 
 -- Where a number passes, the first that does is one of them.
 first_below : (n : ℕ) (p : ℕ → Bool) (i : ℕ) → i < n → p i ≡ true → first n p < n
@@ -39,22 +39,22 @@ part-stored : (area : Bytes) (i : ℕ) → part area i ≡ stored_at area i
 part-stored area i = let e : 64 * i + 64 - 64 * i ≡ 64 = omega arith in rw e
 
 -- The first of n rows of an area that is this one.
-abbrev pub firstIn : Bytes → ℕ → Bytes → ℕ
-firstIn area n row = first n (λ i. sameRow (stored_at area i) row)
+abbrev pub first_in : Bytes → ℕ → Bytes → ℕ
+first_in area n row = first n (λ i. is_same_row (stored_at area i) row)
 
 module _ (area : Bytes) (n : ℕ) (row : Bytes) where
   -- One of n rows of an area is this one.
   abbrev pub StandsIn : Type 0
   StandsIn = (i : ℕ) × (i < n) × (stored_at area i ≡ row)
 
-  pub first-few : firstIn area n row ≤ n
-  first-few = first-le n (λ i. sameRow (stored_at area i) row)
+  pub first-few : first_in area n row ≤ n
+  first-few = first_le n (λ i. is_same_row (stored_at area i) row)
 
   -- It is below n exactly if it is there.
-  pub first-stands : (firstIn area n row < n) ↔ StandsIn
-  first-stands = (
-    λ h. (firstIn area n row, h, (same_row _ row).0 (first-hits n (λ i. sameRow (stored_at area i) row) h)),
-    λ s. first_below n (λ i. sameRow (stored_at area i) row) s.0 s.1 ((same_row _ row).1 s.2),
+  pub first_stands : (first_in area n row < n) ↔ StandsIn
+  first_stands = (
+    λ h. (first_in area n row, h, (same_row _ row).0 (first-hits n (λ i. is_same_row (stored_at area i) row) h)),
+    λ s. first_below n (λ i. is_same_row (stored_at area i) row) s.0 s.1 ((same_row _ row).1 s.2),
   )
 
 module _ (states : Bytes) (made : ℕ) (gathered : Bytes) (count : ℕ) where
@@ -64,29 +64,29 @@ module _ (states : Bytes) (made : ℕ) (gathered : Bytes) (count : ℕ) where
 
   module _ (row : Bytes) where
     -- Where a row stands: at its number among those made, or behind them.
-    pub place-made : firstIn states made row < made → known_at states made gathered count row ≡ firstIn states made row
+    pub place-made : first_in states made row < made → known_at states made gathered count row ≡ first_in states made row
     unfolding known_at
-    place-made h = rw (lt-ltb (firstIn states made row) made h)
+    place-made h = rw (lt-ltb (first_in states made row) made h)
 
-    pub place_found : made ≤ firstIn states made row → known_at states made gathered count row ≡ made + firstIn gathered count row
+    pub place_found : made ≤ first_in states made row → known_at states made gathered count row ≡ made + first_in gathered count row
     unfolding known_at
-    place_found h = rw (le-ltb (firstIn states made row) made h)
+    place_found h = rw (le-ltb (first_in states made row) made h)
 
     pub place-few : known_at states made gathered count row ≤ made + count
-    place-few = elim (dec_lt (firstIn states made row) made) [
+    place-few = elim (dec_lt (first_in states made row) made) [
       | yes l ↦ omega (arith, place-made l)
       | no other ↦ omega (arith, place_found (omega arith), first-few gathered count row)
     ]
 
     -- Both searches, one after the other: the row is among those made, or is looked for among those gathered.
-    pub search-made : (i : ℕ) → i ≡ firstIn states made row → i < made →
+    pub search_made : (i : ℕ) → i ≡ first_in states made row → i < made →
         (true ≡ ltb (known_at states made gathered count row) (made + count)) × (i ≡ known_at states made gathered count row)
-    search-made i e h =
+    search_made i e h =
         let p = place-made (omega arith) in (sym (lt-ltb _ (made + count) (omega (arith, p))), e ∙ sym p)
 
-    pub search-found : (i k : ℕ) → i ≡ firstIn states made row → made ≤ i → k ≡ firstIn gathered count row →
+    pub search_found : (i k : ℕ) → i ≡ first_in states made row → made ≤ i → k ≡ first_in gathered count row →
         (ltb k count ≡ ltb (known_at states made gathered count row) (made + count)) × (made + k ≡ known_at states made gathered count row)
-    search-found i k e h f =
+    search_found i k e h f =
         let p : known_at states made gathered count row ≡ made + k = omega (arith, place_found (omega arith)) in (
           rw p (same_tests (ltb k count) (ltb (made + k) (made + count))
               (λ t. lt-ltb (made + k) (made + count) (omega (arith, ltb-true k count t)))
@@ -96,12 +96,12 @@ module _ (states : Bytes) (made : ℕ) (gathered : Bytes) (count : ℕ) where
 
     -- A row stands below made + count exactly if it is known.
     pub known_is : (ltb (known_at states made gathered count row) (made + count) ≡ true) ↔ IsKnown row
-    known_is = let place = known_at states made gathered count row in elim (dec_lt (firstIn states made row) made) [
-      | yes l ↦ (λ t. inl ((first-stands states made row).0 l), λ s. lt-ltb place (made + count) (omega (arith, place-made l)))
+    known_is = let place = known_at states made gathered count row in elim (dec_lt (first_in states made row) made) [
+      | yes l ↦ (λ t. inl ((first_stands states made row).0 l), λ s. lt-ltb place (made + count) (omega (arith, place-made l)))
       | no other ↦ let e = place_found (omega arith) in (
-        λ t. inr ((first-stands gathered count row).0 (omega (arith, ltb-true place (made + count) t))),
-        ⊎_elim (λ s. absurd (other ((first-stands states made row).1 s)))
-            (λ s. lt-ltb place (made + count) (omega (arith, (first-stands gathered count row).1 s))),
+        λ t. inr ((first_stands gathered count row).0 (omega (arith, ltb-true place (made + count) t))),
+        ⊎_elim (λ s. absurd (other ((first_stands states made row).1 s)))
+            (λ s. lt-ltb place (made + count) (omega (arith, (first_stands gathered count row).1 s))),
       )
     ]
 
@@ -113,21 +113,21 @@ module _ (states : Bytes) (made : ℕ) (gathered : Bytes) (count : ℕ) where
     ]
 
     -- A right guess is a known row.
-    pub guess-known : (guesses : List ℕ) → rightGuess states made gathered count guesses row ≡ true → IsKnown row
-    guess-known guesses t =
+    pub guess_known : (guesses : List ℕ) → right_guess states made gathered count guesses row ≡ true → IsKnown row
+    guess_known guesses t =
         let guess = get_or guesses (slot_of row) 0 in
-        let s = (and-eq-true_iff (ltb guess (made + count)) (sameRow (row_of states made gathered guess) row)).0 t in
+        let s = (and-eq-true_iff (ltb guess (made + count)) (is_same_row (row_of states made gathered guess) row)).0 t in
         row-known guess (ltb-true guess (made + count) s.0) ((same_row (row_of states made gathered guess) row).0 s.1)
 
     -- How a guess is checked: with a row made, with a row gathered, or not at all.
     module _ (guesses : List ℕ) {at : ℕ} (e : at ≡ slot_of row) where
-      pub guess-made : get_or guesses at 0 < made →
-          sameRow (part states (get_or guesses at 0)) row ≡ rightGuess states made gathered count guesses row
-      guess-made h = rw (← e, part-stored states (get_or guesses at 0), lt-ltb (get_or guesses at 0) (made + count) (omega arith), lt-ltb (get_or guesses at 0) made h)
+      pub guess_made : get_or guesses at 0 < made →
+          is_same_row (part states (get_or guesses at 0)) row ≡ right_guess states made gathered count guesses row
+      guess_made h = rw (← e, part-stored states (get_or guesses at 0), lt-ltb (get_or guesses at 0) (made + count) (omega arith), lt-ltb (get_or guesses at 0) made h)
 
-      pub guess-found : made ≤ get_or guesses at 0 → get_or guesses at 0 < made + count →
-          sameRow (part gathered (get_or guesses at 0 - made)) row ≡ rightGuess states made gathered count guesses row
-      guess-found h l = rw (← e, part-stored gathered (get_or guesses at 0 - made), lt-ltb (get_or guesses at 0) (made + count) l, le-ltb (get_or guesses at 0) made h)
+      pub guess_found : made ≤ get_or guesses at 0 → get_or guesses at 0 < made + count →
+          is_same_row (part gathered (get_or guesses at 0 - made)) row ≡ right_guess states made gathered count guesses row
+      guess_found h l = rw (← e, part-stored gathered (get_or guesses at 0 - made), lt-ltb (get_or guesses at 0) (made + count) l, le-ltb (get_or guesses at 0) made h)
 
-      pub guess-none : made + count ≤ get_or guesses at 0 → false ≡ rightGuess states made gathered count guesses row
-      guess-none h = rw (← e, le-ltb (get_or guesses at 0) (made + count) h)
+      pub guess_none : made + count ≤ get_or guesses at 0 → false ≡ right_guess states made gathered count guesses row
+      guess_none h = rw (← e, le-ltb (get_or guesses at 0) (made + count) h)

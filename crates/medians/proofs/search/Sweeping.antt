@@ -24,7 +24,7 @@ module _ {given : Rows} where
   -- Nothing is done.
   pub gathered_none : (gathered : Bytes) (s : Search) → Gathered given gathered s gathered s
   gathered_none gathered s = record {
-    no-fewer = omega arith;
+    no_fewer = omega arith;
     older = λ k h. refl;
     newer = λ k l h. absurd (omega arith);
     differ = λ i k l m h. absurd (omega arith);
@@ -37,28 +37,28 @@ module _ {given : Rows} where
       s.made + s.count ≤ 128 → Swept asked given gathered s gathered s
   swept_none {gathered} {s} dealt room = record {
     size = refl;
-    rest-stays = λ p h. refl;
-    made-stays = refl;
-    aim-stays = refl;
+    rest_stays = λ p h. refl;
+    made_stays = refl;
+    aim_stays = refl;
     room = room;
-    no-higher = omega arith;
+    no_higher = omega arith;
     deals = dealt;
     keeps = λ x cost d. d;
-    count-stays = λ e. refl;
+    count_stays = λ e. refl;
     lowers = λ e. inl refl;
     gathers = λ e. gathered_none gathered s;
   }
 
-  module _ {f₀ f₁ f₂ : Bytes} {s₀ s₁ s₂ : Search} (made-stays : s₂.made ≡ s₁.made) (lower : s₁.below ≤ s₀.below)
-      (no-higher : s₂.below ≤ s₁.below) (a : Gathered given f₀ s₀ f₁ s₁) (b : Gathered given f₁ s₁ f₂ s₂) where
+  module _ {f₀ f₁ f₂ : Bytes} {s₀ s₁ s₂ : Search} (made_stays : s₂.made ≡ s₁.made) (lower : s₁.below ≤ s₀.below)
+      (no_higher : s₂.below ≤ s₁.below) (a : Gathered given f₀ s₀ f₁ s₁) (b : Gathered given f₁ s₁ f₂ s₂) where
     -- Where the first found no room, the second added nothing.
     crowd-first : Crowd given s₀.below f₁ s₁ → Crowd given s₀.below f₂ s₂
     crowd-first c = record {
       closed = omega (arith, c.closed);
-      all-used = omega (arith, c.all-used, same);
+      all_used = omega (arith, c.all_used, same);
       row = c.row;
       cost = c.cost;
-      is-given = c.is-given;
+      is_given = c.is_given;
       matters = c.matters;
       another = λ k h. rw (b.older k (omega (arith, same))) (c.another k (omega (arith, same)));
     }
@@ -66,24 +66,24 @@ module _ {given : Rows} where
         same : s₂.count ≡ s₁.count
         same = elim (dec_lt s₁.count s₂.count) [
           | yes l ↦ absurd (let n = b.newer s₁.count (omega arith) l in omega (arith, n.2, c.closed))
-          | no other ↦ omega (arith, b.no-fewer)
+          | no other ↦ omega (arith, b.no_fewer)
         ]
 
     crowd-second : Crowd given s₁.below f₂ s₂ → Crowd given s₀.below f₂ s₂
     crowd-second c = record {
       closed = c.closed;
-      all-used = c.all-used;
+      all_used = c.all_used;
       row = c.row;
       cost = c.cost;
-      is-given = c.is-given;
+      is_given = c.is_given;
       matters = omega (arith, c.matters);
       another = c.another;
     }
 
     gathered-both : Gathered given f₀ s₀ f₂ s₂
     gathered-both = record {
-      no-fewer = omega (arith, a.no-fewer, b.no-fewer);
-      older = λ k h. b.older k (omega (arith, a.no-fewer)) ∙ a.older k h;
+      no_fewer = omega (arith, a.no_fewer, b.no_fewer);
+      older = λ k h. b.older k (omega (arith, a.no_fewer)) ∙ a.older k h;
       newer = λ k l h. elim (dec_lt k s₁.count) [
         | yes m ↦ rw (b.older k m) (a.newer k l m)
         | no other ↦ let n = b.newer k (omega arith) h in (n.0, n.1, omega (arith, n.2))
@@ -101,29 +101,29 @@ module _ {given : Rows} where
         by_first e f false g = crowd-second (b.crowd g f)
 
   -- No row gathered is lost.
-  no-fewer : {A : Rows} {gathered found' : Bytes} {s s' : Search} → Swept A given gathered s found' s' → s.count ≤ s'.count
-  no-fewer {s} {s'} a = by-aim s.gathering refl
+  no_fewer : {A : Rows} {gathered found' : Bytes} {s s' : Search} → Swept A given gathered s found' s' → s.count ≤ s'.count
+  no_fewer {s} {s'} a = by_aim s.gathering refl
     where
-      by-aim : (gathering : Bool) → s.gathering ≡ gathering → s.count ≤ s'.count
-      by-aim false e = omega (arith, a.count-stays e)
-      by-aim true e = (a.gathers e).no-fewer
+      by_aim : (gathering : Bool) → s.gathering ≡ gathering → s.count ≤ s'.count
+      by_aim false e = omega (arith, a.count_stays e)
+      by_aim true e = (a.gathers e).no_fewer
 
   -- One sweep after the other deals with all that either is asked for.
   pub swept-more : {A B C : Rows} {f₀ f₁ f₂ : Bytes} {s₀ s₁ s₂ : Search} → Swept A given f₀ s₀ f₁ s₁ → Swept B given f₁ s₁ f₂ s₂ →
       ((x : Bytes) (cost : ℕ) → C x cost → A x cost ⊎ B x cost) → Swept C given f₀ s₀ f₂ s₂
   swept-more {s₀} {s₁} {s₂} a b which = record {
     size = b.size ∙ a.size;
-    rest-stays = λ p h. b.rest-stays p h ∙ a.rest-stays p (omega (arith, no-fewer b));
-    made-stays = b.made-stays ∙ a.made-stays;
-    aim-stays = b.aim-stays ∙ a.aim-stays;
+    rest_stays = λ p h. b.rest_stays p h ∙ a.rest_stays p (omega (arith, no_fewer b));
+    made_stays = b.made_stays ∙ a.made_stays;
+    aim_stays = b.aim_stays ∙ a.aim_stays;
     room = b.room;
-    no-higher = omega (arith, a.no-higher, b.no-higher);
+    no_higher = omega (arith, a.no_higher, b.no_higher);
     deals = λ x cost c. ⊎_elim (λ p. b.keeps x cost (a.deals x cost p)) (λ q. b.deals x cost q) (which x cost c);
     keeps = λ x cost d. b.keeps x cost (a.keeps x cost d);
-    count-stays = λ e. b.count-stays (a.aim-stays ∙ e) ∙ a.count-stays e;
-    lowers = λ e. lowered-both given s₀ s₁ s₂ (a.lowers e) (b.lowers (a.aim-stays ∙ e));
+    count_stays = λ e. b.count_stays (a.aim_stays ∙ e) ∙ a.count_stays e;
+    lowers = λ e. lowered-both given s₀ s₁ s₂ (a.lowers e) (b.lowers (a.aim_stays ∙ e));
     gathers = λ e.
-        gathered-both b.made-stays a.no-higher b.no-higher (a.gathers e) (b.gathers (a.aim-stays ∙ e));
+        gathered-both b.made_stays a.no_higher b.no_higher (a.gathers e) (b.gathers (a.aim_stays ∙ e));
   }
 
   pub swept-both : {A B : Rows} {f₀ f₁ f₂ : Bytes} {s₀ s₁ s₂ : Search} → Swept A given f₀ s₀ f₁ s₁ → Swept B given f₁ s₁ f₂ s₂ →
@@ -132,41 +132,41 @@ module _ {given : Rows} where
 
 -- Fewer rows asked for, and more that may be given.
 module _ {G G' : Rows} (more : (x : Bytes) (cost : ℕ) → G x cost → G' x cost) where
-  crowd-as : {bound : ℕ} {gathered : Bytes} {s : Search} → Crowd G bound gathered s → Crowd G' bound gathered s
-  crowd-as c = record {
+  crowd_as : {bound : ℕ} {gathered : Bytes} {s : Search} → Crowd G bound gathered s → Crowd G' bound gathered s
+  crowd_as c = record {
     closed = c.closed;
-    all-used = c.all-used;
+    all_used = c.all_used;
     row = c.row;
     cost = c.cost;
-    is-given = more c.row c.cost c.is-given;
+    is_given = more c.row c.cost c.is_given;
     matters = c.matters;
     another = c.another;
   }
 
-  gathered-as : {gathered found' : Bytes} {s s' : Search} → Gathered G gathered s found' s' → Gathered G' gathered s found' s'
-  gathered-as {found'} a = record {
-    no-fewer = a.no-fewer;
+  gathered_as : {gathered found' : Bytes} {s s' : Search} → Gathered G gathered s found' s' → Gathered G' gathered s found' s'
+  gathered_as {found'} a = record {
+    no_fewer = a.no_fewer;
     older = a.older;
     newer = λ k l h. let n = a.newer k l h in (n.0, more (stored_at found' k) n.0 n.1, n.2);
     differ = a.differ;
     still_open = a.still_open;
-    crowd = λ e f. crowd-as (a.crowd e f);
+    crowd = λ e f. crowd_as (a.crowd e f);
   }
 
 pub swept_as : {A A' G G' : Rows} {gathered found' : Bytes} {s s' : Search} → ((x : Bytes) (cost : ℕ) → A' x cost → A x cost) →
     ((x : Bytes) (cost : ℕ) → G x cost → G' x cost) → Swept A G gathered s found' s' → Swept A' G' gathered s found' s'
 swept_as {s'} fewer more a = record {
   size = a.size;
-  rest-stays = a.rest-stays;
-  made-stays = a.made-stays;
-  aim-stays = a.aim-stays;
+  rest_stays = a.rest_stays;
+  made_stays = a.made_stays;
+  aim_stays = a.aim_stays;
   room = a.room;
-  no-higher = a.no-higher;
+  no_higher = a.no_higher;
   deals = λ x cost p. a.deals x cost (fewer x cost p);
   keeps = a.keeps;
-  count-stays = a.count-stays;
+  count_stays = a.count_stays;
   lowers = λ e. ⊎_elim inl (λ g. inr (g.0, more g.0 s'.below g.1)) (a.lowers e);
-  gathers = λ e. gathered-as more (a.gathers e);
+  gathers = λ e. gathered_as more (a.gathers e);
 }
 
 -- What is asked for and given at a number of rows made, at the same number said otherwise.

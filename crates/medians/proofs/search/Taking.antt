@@ -8,42 +8,42 @@ use native.Mathlib.Omega.{arith}
 use lib.ListN.{length}
 use borrow.Author.Tests.{eq-eqb, ne_eqb}
 use Rattle.rules.specs.Job.{Bytes}
-use Rattle.rules.proofs.Block.{stands-part}
+use Rattle.rules.proofs.Block.{stands_part}
 use Rattle.memory.specs.Placed.{placed}
-use Rattle.memory.proofs.Placed.{stands-placed, length-placed, getD-placed-before, getD-placed-behind}
+use Rattle.memory.proofs.Placed.{stands_placed, length-placed, get_or-placed-before, get_or-placed-behind}
 use Rattle.types.specs.State.{stored_at}
-use Rattle.types.proofs.State.{storedAt-is, storedAt-state, length-storedAt}
+use Rattle.types.proofs.State.{stored_at-is, stored_at-state, length-stored_at}
 use Rattle.medians.specs.declared.search.Search.{Search}
-use Rattle.medians.specs.Search.{lowered, filled, withOne, taken, gatheredAfter}
+use Rattle.medians.specs.Search.{lowered, filled, with_one, taken, gathered_after}
 use Rattle.medians.specs.Swept.{Swept}
 use Rattle.medians.proofs.search.Sweeping.{Rows}
 
 module _ (gathered : Bytes) (s : Search) (row : Bytes) (cost : ℕ) where
   -- What it makes of the search and of the rows gathered, by the search's aim and its room.
   abbrev Takes : Search → Bytes → Type 0
-  Takes r found' = (r ≡ taken s cost) × (found' ≡ gatheredAfter gathered s row)
+  Takes r found' = (r ≡ taken s cost) × (found' ≡ gathered_after gathered s row)
 
-  pub takes-lowered : s.gathering ≡ false → Takes (lowered s cost) gathered
-  takes-lowered e = rw e (refl, refl)
+  pub takes_lowered : s.gathering ≡ false → Takes (lowered s cost) gathered
+  takes_lowered e = rw e (refl, refl)
 
-  pub takes-filled : s.gathering ≡ true → s.made + s.count ≡ 128 → Takes (filled s) gathered
-  takes-filled e f = rw (e, eq-eqb (s.made + s.count) 128 f) (refl, refl)
+  pub takes_filled : s.gathering ≡ true → s.made + s.count ≡ 128 → Takes (filled s) gathered
+  takes_filled e f = rw (e, eq-eqb (s.made + s.count) 128 f) (refl, refl)
 
-  pub takes_one : s.gathering ≡ true → s.made + s.count ≢ 128 → Takes (withOne s) (placed gathered (64 * s.count) row)
+  pub takes_one : s.gathering ≡ true → s.made + s.count ≢ 128 → Takes (with_one s) (placed gathered (64 * s.count) row)
   takes_one e f = rw (e, ne_eqb (s.made + s.count) 128 f) (refl, refl)
 
 -- A row placed behind those gathered stands there, and those before it stay.
 module _ (gathered : Bytes) (count : ℕ) (row : Bytes) (wide : length row ≡ 64) (room : 64 * count + 64 ≤ length gathered) where
   stands_one : stored_at (placed gathered (64 * count) row) count ≡ row
-  stands_one = rw wide at (stands-part (stands-placed gathered row (64 * count) (omega arith)))
+  stands_one = rw wide at (stands_part (stands_placed gathered row (64 * count) (omega arith)))
 
   one_size : length (placed gathered (64 * count) row) ≡ length gathered
   one_size = length-placed gathered row (64 * count) (omega arith)
 
   others-stay : (k : ℕ) → k < count → stored_at (placed gathered (64 * count) row) k ≡ stored_at gathered k
   others-stay k h =
-      storedAt-is (placed gathered (64 * count) row) k (stored_at gathered k) (length-storedAt gathered k (omega arith)) (omega (arith, one_size)) (λ c l.
-      getD-placed-before gathered row (64 * count) (omega arith) (64 * k + c) 0 (omega arith) ∙ sym (storedAt-state gathered k c l))
+      stored_at-is (placed gathered (64 * count) row) k (stored_at gathered k) (length-stored_at gathered k (omega arith)) (omega (arith, one_size)) (λ c l.
+      get_or-placed-before gathered row (64 * count) (omega arith) (64 * k + c) 0 (omega arith) ∙ sym (stored_at-state gathered k c l))
 
 -- What is asked for is one row at one cost, which is given, matters, and is not among those gathered.
 module _ (asked given : Rows) (gathered : Bytes) (s : Search) (row : Bytes) (cost : ℕ)
@@ -52,14 +52,14 @@ module _ (asked given : Rows) (gathered : Bytes) (s : Search) (row : Bytes) (cos
   swept-lowered : s.gathering ≡ false → Swept asked given gathered s gathered (lowered s cost)
   swept-lowered e = record {
     size = refl;
-    rest-stays = λ p h. refl;
-    made-stays = refl;
-    aim-stays = refl;
+    rest_stays = λ p h. refl;
+    made_stays = refl;
+    aim_stays = refl;
     room = room;
-    no-higher = omega arith;
+    no_higher = omega arith;
     deals = λ x c a. inl (omega (arith, (only x c a).1));
     keeps = λ x c. ⊎_elim (λ l. inl (omega arith)) inr;
-    count-stays = λ _. refl;
+    count_stays = λ _. refl;
     lowers = λ _. inr (row, gives);
     gathers = λ f. absurd (false≢true (sym e ∙ f));
   }
@@ -67,27 +67,27 @@ module _ (asked given : Rows) (gathered : Bytes) (s : Search) (row : Bytes) (cos
   swept-filled : s.gathering ≡ true → s.made + s.count ≡ 128 → Swept asked given gathered s gathered (filled s)
   swept-filled e full = record {
     size = refl;
-    rest-stays = λ p h. refl;
-    made-stays = refl;
-    aim-stays = refl;
+    rest_stays = λ p h. refl;
+    made_stays = refl;
+    aim_stays = refl;
     room = room;
-    no-higher = omega arith;
+    no_higher = omega arith;
     deals = λ x c a. inl (omega arith);
     keeps = λ x c d. inl (omega arith);
-    count-stays = λ f. absurd (false≢true (sym f ∙ e));
+    count_stays = λ f. absurd (false≢true (sym f ∙ e));
     lowers = λ f. absurd (false≢true (sym f ∙ e));
     gathers = λ _. record {
-      no-fewer = omega arith;
+      no_fewer = omega arith;
       older = λ k h. refl;
       newer = λ k l h. absurd (omega arith);
       differ = λ i k l m h. absurd (omega arith);
       still_open = λ f. absurd (false≢true (sym f));
       crowd = λ _ _. record {
         closed = refl;
-        all-used = full;
+        all_used = full;
         row = row;
         cost = cost;
-        is-given = gives;
+        is_given = gives;
         matters = matters;
         another = another;
       };
@@ -96,20 +96,20 @@ module _ (asked given : Rows) (gathered : Bytes) (s : Search) (row : Bytes) (cos
 
   module _ (wide : length row ≡ 64) (size : length gathered ≡ 8192) where
     swept-one : s.gathering ≡ true → s.made + s.count ≢ 128 →
-        Swept asked given gathered s (placed gathered (64 * s.count) row) (withOne s)
+        Swept asked given gathered s (placed gathered (64 * s.count) row) (with_one s)
     swept-one e free = record {
       size = one_size gathered s.count row wide fits;
-      rest-stays = λ p h. getD-placed-behind gathered row (64 * s.count) (omega arith) p 0 (omega arith);
-      made-stays = refl;
-      aim-stays = refl;
+      rest_stays = λ p h. get_or-placed-behind gathered row (64 * s.count) (omega arith) p 0 (omega arith);
+      made_stays = refl;
+      aim_stays = refl;
       room = omega arith;
-      no-higher = omega arith;
+      no_higher = omega arith;
       deals = λ x c a. inr (s.count, omega arith, here ∙ sym (only x c a).0);
       keeps = λ x c. ⊎_elim inl (λ d. inr (d.0, omega (arith, d.1), stay d.0 d.1 ∙ d.2));
-      count-stays = λ f. absurd (false≢true (sym f ∙ e));
+      count_stays = λ f. absurd (false≢true (sym f ∙ e));
       lowers = λ f. absurd (false≢true (sym f ∙ e));
       gathers = λ _. record {
-        no-fewer = omega arith;
+        no_fewer = omega arith;
         older = stay;
         newer = λ k l h. let last : k ≡ s.count = omega arith in rw (last, here) (cost, gives, matters);
         differ = λ i k l m h. let last : k ≡ s.count = omega arith in
@@ -129,12 +129,12 @@ module _ (asked given : Rows) (gathered : Bytes) (s : Search) (row : Bytes) (cos
         stay = others-stay gathered s.count row wide fits
 
     -- It is taken, by the search's aim and its room.
-    pub swept-taken : Swept asked given gathered s (gatheredAfter gathered s row) (taken s cost)
-    swept-taken = by-aim s.gathering refl
+    pub swept-taken : Swept asked given gathered s (gathered_after gathered s row) (taken s cost)
+    swept-taken = by_aim s.gathering refl
       where
-        by-aim : (gathering : Bool) → s.gathering ≡ gathering → Swept asked given gathered s (gatheredAfter gathered s row) (taken s cost)
-        by-aim false e = let q = takes-lowered gathered s row cost e in rw (← q.0, ← q.1) (swept-lowered e)
-        by-aim true e = elim (ℕ_discrete (s.made + s.count) 128) [
-          | yes f ↦ let q = takes-filled gathered s row cost e f in rw (← q.0, ← q.1) (swept-filled e f)
+        by_aim : (gathering : Bool) → s.gathering ≡ gathering → Swept asked given gathered s (gathered_after gathered s row) (taken s cost)
+        by_aim false e = let q = takes_lowered gathered s row cost e in rw (← q.0, ← q.1) (swept-lowered e)
+        by_aim true e = elim (ℕ_discrete (s.made + s.count) 128) [
+          | yes f ↦ let q = takes_filled gathered s row cost e f in rw (← q.0, ← q.1) (swept-filled e f)
           | no f ↦ let q = takes_one gathered s row cost e f in rw (← q.0, ← q.1) (swept-one e f)
         ]

@@ -8,7 +8,7 @@ use Prim.Native.Nat.{ℕ, zero, suc, ◌+◌, ◌≤◌, ◌<◌}
 use native.Mathlib.Omega.{arith}
 use lib.ListN.{get_or}
 use Rattle.rules.specs.Job.{Bytes}
-use Rattle.rules.specs.Types.{row_at, sameRow}
+use Rattle.rules.specs.Types.{row_at, is_same_row}
 use Rattle.rules.specs.Median.{medians}
 use Rattle.rules.proofs.Rows.{same_row}
 use Rattle.rules.proofs.Between.{alike-medians}
@@ -21,25 +21,25 @@ use Rattle.medians.proofs.search.Sweeping.{Rows, swept-both, swept-more, swept_a
 use Rattle.medians.proofs.search.Considering.{wide}
 
 -- The types of a triplet stay inside where as many rows are made and there is room.
-pub still-inside : {states : Bytes} {s s' : Search} {t : Triplet} → Inside states s t → s'.made ≡ s.made → s'.made + s'.count ≤ 128 → Inside states s' t
-still-inside inside e room = record {
-  u-made = rw e inside.u-made;
-  v-made = rw e inside.v-made;
-  w-made = rw e inside.w-made;
+pub still_inside : {states : Bytes} {s s' : Search} {t : Triplet} → Inside states s t → s'.made ≡ s.made → s'.made + s'.count ≤ 128 → Inside states s' t
+still_inside inside e room = record {
+  u_made = rw e inside.u_made;
+  v_made = rw e inside.v_made;
+  w_made = rw e inside.w_made;
   room = room;
   lie = rw e inside.lie;
 }
 
 -- The median vectors of a triplet, and which of the rows the code has is which.
-abbrev pub mediansOf : Bytes → Triplet → List Bytes
-mediansOf states t = medians (stored_at states t.u) (stored_at states t.v) (stored_at states t.w)
+abbrev pub medians_of : Bytes → Triplet → List Bytes
+medians_of states t = medians (stored_at states t.u) (stored_at states t.v) (stored_at states t.w)
 
-module _ (states : Bytes) (t : Triplet) {rows : List Bytes} (are : rows ≡ mediansOf states t) where
-  same_at : (k : ℕ) → row_at (mediansOf states t) k ≡ get_or rows k []
+module _ (states : Bytes) (t : Triplet) {rows : List Bytes} (are : rows ≡ medians_of states t) where
+  same_at : (k : ℕ) → row_at (medians_of states t) k ≡ get_or rows k []
   same_at k = ap (λ rs. row_at rs k) (sym are)
 
   pub is-median : (k : ℕ) → k < 3 → IsMedian states t (get_or rows k [])
-  is-median k h = record { number = k; below-three = h; row_is = sym (same_at k) }
+  is-median k h = record { number = k; below_three = h; row_is = sym (same_at k) }
 
   module _ (ws : List ℕ) where
     -- What is asked for when median vector k is considered.
@@ -50,33 +50,33 @@ module _ (states : Bytes) (t : Triplet) {rows : List Bytes} (are : rows ≡ medi
     Given made = Gives ws states made t
 
     -- Where the first two are alike, the first is all.
-    pub visited-alike : {s s' : Search} {gathered found' : Bytes} → Inside states s t →
-        {r : Bool} → r ≡ sameRow (get_or rows 0 []) (get_or rows 1 []) → r ≡ true →
+    pub visited_alike : {s s' : Search} {gathered found' : Bytes} → Inside states s t →
+        {r : Bool} → r ≡ is_same_row (get_or rows 0 []) (get_or rows 1 []) → r ≡ true →
         Swept (Asked 0 s.made) (Given s.made) gathered s found' s' → Swept (Given s.made) (Given s.made) gathered s found' s'
-    visited-alike inside is e =
+    visited_alike inside is e =
         let same = (same_row (get_or rows 0 []) (get_or rows 1 [])).0 (sym is ∙ e) in
-        let u = wide inside t.u inside.u-made in
-        let v = wide inside t.v inside.v-made in
-        let w = wide inside t.w inside.w-made in
+        let u = wide inside t.u inside.u_made in
+        let v = wide inside t.v inside.v_made in
+        let w = wide inside t.w inside.w_made in
         let alike = alike-medians _ _ _ (v ∙ sym u) (w ∙ sym u) (same_at 0 ∙ same ∙ sym (same_at 1)) in
-        swept_as (λ x cost g. (g.median.row_is ∙ alike g.median.number g.median.below-three ∙ same_at 0, g)) (λ x cost g. g)
+        swept_as (λ x cost g. (g.median.row_is ∙ alike g.median.number g.median.below_three ∙ same_at 0, g)) (λ x cost g. g)
 
     -- Otherwise each is one of the three.
     which : (made : ℕ) (x : Bytes) (cost : ℕ) → Given made x cost → Asked 0 made x cost ⊎ (Asked 1 made x cost ⊎ Asked 2 made x cost)
-    which made x cost g = by_number g.median.number g.median.below-three g.median.row_is
+    which made x cost g = by_number g.median.number g.median.below_three g.median.row_is
       where
-        by_number : (k : ℕ) → k < 3 → x ≡ row_at (mediansOf states t) k → Asked 0 made x cost ⊎ (Asked 1 made x cost ⊎ Asked 2 made x cost)
+        by_number : (k : ℕ) → k < 3 → x ≡ row_at (medians_of states t) k → Asked 0 made x cost ⊎ (Asked 1 made x cost ⊎ Asked 2 made x cost)
         by_number zero h e = inl (e ∙ same_at 0, g)
         by_number (suc zero) h e = inr (inl (e ∙ same_at 1, g))
         by_number (suc (suc zero)) h e = inr (inr (e ∙ same_at 2, g))
         by_number (suc (suc (suc k))) h e = absurd (omega arith)
 
-    pub visited-all : {s₀ s₁ s₂ s₃ : Search} {f₀ f₁ f₂ f₃ : Bytes} →
+    pub visited_all : {s₀ s₁ s₂ s₃ : Search} {f₀ f₁ f₂ f₃ : Bytes} →
         Swept (Asked 0 s₀.made) (Given s₀.made) f₀ s₀ f₁ s₁ →
         Swept (Asked 1 s₁.made) (Given s₁.made) f₁ s₁ f₂ s₂ →
         Swept (Asked 2 s₂.made) (Given s₂.made) f₂ s₂ f₃ s₃ →
         Swept (Given s₀.made) (Given s₀.made) f₀ s₀ f₃ s₃
-    visited-all {s₀} one two three =
-        let e = one.made-stays in
-        let rest = swept-both (swept_at (Asked 1) Given e two) (swept_at (Asked 2) Given (two.made-stays ∙ e) three) in
+    visited_all {s₀} one two three =
+        let e = one.made_stays in
+        let rest = swept-both (swept_at (Asked 1) Given e two) (swept_at (Asked 2) Given (two.made_stays ∙ e) three) in
         swept-more one rest (which s₀.made)

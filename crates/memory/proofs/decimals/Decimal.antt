@@ -24,8 +24,8 @@ length-decimal (suc k) n h = elim (dec_lt n 10) [
   | no f ↦ rw (tenth n (omega arith), length-append) (omega (arith, length-decimal k (n / 10) (omega (arith, pow-suc 10 (suc k)))))
 ]
 
-some-digit : (n : ℕ) → 1 ≤ length (decimal n)
-some-digit n = elim (dec_lt n 10) [
+some_digit : (n : ℕ) → 1 ≤ length (decimal n)
+some_digit n = elim (dec_lt n 10) [
   | yes l ↦ rw (short n n l) (omega arith)
   | no f ↦ rw (tenth n (omega arith), length-append) (omega arith)
 ]
@@ -56,6 +56,6 @@ module _ {x : ℕ} {ds : Bytes} {i left : ℕ} (w : Written x ds i left) where
       omega (
         arith,
         length-decimal 19 x (omega arith),
-        some-digit (left / 10),
+        some_digit (left / 10),
         simp (length-append, length-drop, length-set) at (ap length (written-more l)),
       )

@@ -7,7 +7,7 @@ use Rattle.graph.specs.Below.{gather}
 use Rattle.rules.specs.Job.{Bytes}
 use Rattle.memory.specs.Placed.{Follows}
 use Rattle.memory.proofs.Placed.{length-placed}
-use Rattle.memory.proofs.Follows.{follows-none, pieces-within, follows-more, follows-room}
+use Rattle.memory.proofs.Follows.{follows-none, pieces_within, follows-more, follows-room}
 
 -- k of n parts are written, and there is room for all.
 pub record Upto (n : ℕ) (part : ℕ → Bytes) (b : Bytes) (at k : ℕ) (b₁ : Bytes) (p : ℕ) : Type 0 where
@@ -21,7 +21,7 @@ upto-none n part b at h = record { most = omega arith; done = follows-none b at;
 
 module _ {n : ℕ} {part : ℕ → Bytes} {b b₁ : Bytes} {at k p : ℕ} (u : Upto n part b at k b₁ p) where
   pub upto-length : length b₁ ≡ length b
-  upto-length = rw u.done.is (length-placed b _ at (omega (arith, u.room, pieces-within part n k u.most)))
+  upto-length = rw u.done.is (length-placed b _ at (omega (arith, u.room, pieces_within part n k u.most)))
 
   pub upto_all : n ≤ k → Follows b at (gather n part) b₁ p
   upto_all h = let e : n ≡ k = omega (arith, u.most) in rw e u.done

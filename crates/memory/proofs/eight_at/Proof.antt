@@ -4,7 +4,7 @@ use Prim.Native.Nat.{ℕ, ◌+◌, ◌<◌}
 use native.Mathlib.Omega.{arith}
 use lib.ListN.{get_or}
 use mir.Facts.{Fits-8_64}
-use Rattle.memory.proofs.Digits.{Spelt, none-spelt, one-spelt, one-fits, all-spelt}
+use Rattle.memory.proofs.Digits.{Spelt, none_spelt, one_spelt, one-fits, all_spelt}
 use Rattle.memory.proofs.eight_at.Statement.{statement}
 use Rattle.memory.proofs.eight_at.Tie as tie
 
@@ -15,7 +15,7 @@ abbrev decreases-loop : tie.decreases-loop
 decreases-loop b i word₀ k₀ word k = k
 
 loop-holds : tie.Need-loop-init invariant-loop decreases-loop
-loop-holds c = (none-spelt _ _ _, λ h. absurd (omega arith))
+loop-holds c = (none_spelt _ _ _, λ h. absurd (omega arith))
 
 cast-byte : tie.Need-overflow-cast-byte invariant-loop decreases-loop
 cast-byte c = Fits-8_64 (c.shared-slice-known.given _)
@@ -30,12 +30,12 @@ mul-word : tie.Need-overflow-mul-word invariant-loop decreases-loop
 mul-word c = omega (arith, add-word c)
 
 loop-again : tie.Need-loop-preserved invariant-loop decreases-loop
-loop-again c = (one-spelt _ _ _ _ _ _ (omega arith) c.before.before.loop.invariant.0 refl, λ h p. omega (arith, c.shared-slice-known.given p))
+loop-again c = (one_spelt _ _ _ _ _ _ (omega arith) c.before.before.loop.invariant.0 refl, λ h p. omega (arith, c.shared-slice-known.given p))
 
 returns : tie.Need-returns invariant-loop decreases-loop
 returns c =
     let l = c.before.loop in
-    record { is = all-spelt _ _ _ l.k _ (omega arith) l.invariant.0; bytes = l.invariant.1 (omega arith) }
+    record { is = all_spelt _ _ _ l.k _ (omega arith) l.invariant.0; bytes = l.invariant.1 (omega arith) }
 
 pub eight-at-spec : {M : Type 1} → statement M
 eight-at-spec =

@@ -13,7 +13,7 @@ use Rattle.graph.specs.Below.{every}
 use Rattle.graph.proofs.Below.{is_false, every_true}
 use Rattle.rules.specs.Job.{Bytes}
 use Rattle.rules.proofs.Job.{Within, within, inside}
-use Rattle.memory.specs.Numeral.{isDigit, value_of, isDecimal, numeral}
+use Rattle.memory.specs.Numeral.{is_digit, value_of, is_decimal, numeral}
 use Rattle.memory.specs.declared.numerals.Numeral.TheVariants.{Number, Other}
 
 module _ (xs : Bytes) where
@@ -36,24 +36,24 @@ module _ (xs : Bytes) where
 
   -- What is so of bytes that write a number of 16 bits.
   pub record Writes : Type 0 where
-    pub some-digit : 0 < length xs
+    pub some_digit : 0 < length xs
     pub digits : (i : ℕ) → i < length xs → Within 48 57 (get_or xs i 0)
     pub small : value_of xs (length xs) ≤ 65535
 
-  test-true : (isDecimal xs && not (ltb 65535 (value_of xs (length xs))) ≡ true) ↔ Writes
-  unfolding isDecimal
-  test-true =
-      let digit : ℕ → Bool = λ i. isDigit (get_or xs i 0) in
-      let both = and-eq-true_iff (isDecimal xs) (not (ltb 65535 (value_of xs (length xs)))) in
+  test_true : (is_decimal xs && not (ltb 65535 (value_of xs (length xs))) ≡ true) ↔ Writes
+  unfolding is_decimal
+  test_true =
+      let digit : ℕ → Bool = λ i. is_digit (get_or xs i 0) in
+      let both = and-eq-true_iff (is_decimal xs) (not (ltb 65535 (value_of xs (length xs)))) in
       let decimal = and-eq-true_iff (ltb 0 (length xs)) (every (length xs) digit) in
       let all = every_true (length xs) digit in (
         λ e. let d = decimal.0 (both.0 e).0 in record {
-          some-digit = ltb-true _ _ d.0;
+          some_digit = ltb-true _ _ d.0;
           digits = λ i h. within 48 57 _ (not-true _ (all.0 d.1 i h));
           small = ltb-false _ _ (not-true _ (both.0 e).1);
         },
         λ w. both.1 (
-          decimal.1 (lt-ltb _ _ w.some-digit, all.1 (λ i h. rw (inside 48 57 _ (w.digits i h).at_least (w.digits i h).at_most))),
+          decimal.1 (lt-ltb _ _ w.some_digit, all.1 (λ i h. rw (inside 48 57 _ (w.digits i h).at_least (w.digits i h).at_most))),
           rw (le-ltb 65535 _ w.small),
         ),
       )
@@ -61,8 +61,8 @@ module _ (xs : Bytes) where
   -- Such bytes are read as their number, and all others as none.
   pub number_is : {value : ℕ} → value ≡ value_of xs (length xs) → Writes → Number value ≡ numeral xs
   unfolding numeral
-  number_is e w = rw (e, test-true.1 w)
+  number_is e w = rw (e, test_true.1 w)
 
   pub other-is : (Writes → ⊥) → Other ≡ numeral xs
   unfolding numeral
-  other-is f = rw (is_false _ (λ e. f (test-true.0 e)))
+  other-is f = rw (is_false _ (λ e. f (test_true.0 e)))

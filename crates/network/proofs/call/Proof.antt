@@ -36,9 +36,9 @@ use Rattle.memory.specs.Placed.{placed}
 use Rattle.memory.specs.contracts.clear_words as words'
 use Rattle.memory.proofs.clear_words.Symbol as words-def
 use Rattle.memory.proofs.clear_words.Met as words-thm
-use Rattle.purge.specs.Network.{linksIn}
+use Rattle.purge.specs.Network.{links_in}
 use Rattle.result.specs.Order.{no_link}
-use Rattle.result.specs.Table.{tableBytes}
+use Rattle.result.specs.Table.{table_bytes}
 use Rattle.result.specs.contracts.table.list_links as list'
 use Rattle.result.proofs.table.list_links.Symbol as list-def
 use Rattle.result.proofs.table.list_links.Met as list-thm
@@ -52,12 +52,12 @@ use Rattle.network.specs.declared.draw.Sketch.{Sketch}
 use Rattle.network.specs.contracts.draw.Sketch as S
 use Rattle.network.proofs.draw.Sketch.TheLaws as S'
 use Rattle.byhand.proofs.Lend.{entry, well_typed, named, held, gave, lends, back, lends_shr, back_shr}
-use Rattle.byhand.proofs.Locals.{Cells, enters, frees-locals}
+use Rattle.byhand.proofs.Locals.{Cells, enters, frees_locals}
 use Rattle.byhand.proofs.Loop.{Holds, sets}
-use Rattle.byhand.proofs.Meets.{Params, shared-param, given-param, Walk, Start, ends_with, meets}
+use Rattle.byhand.proofs.Meets.{Params, shared_param, given_param, Walk, Start, ends_with, meets}
 use Rattle.byhand.proofs.Told.{Told, calls-told, last-list}
-use Rattle.byhand.proofs.Body.{Blocks, env, reslices, unslices, whole-arg, field-arg, number, lands-nothing}
-use Rattle.network.proofs.Areas.{Areas, lfts, shares, refs, vals, areas-of}
+use Rattle.byhand.proofs.Body.{Blocks, env, reslices, unslices, whole_arg, field_arg, number, lands_nothing}
+use Rattle.network.proofs.Areas.{Areas, lfts, shares, refs, vals, areas_of}
 use Rattle.network.specs.Called.{Unlinked}
 use Rattle.network.proofs.Left.{listable, putable, called}
 use Rattle.network.specs.contracts.sketch as answer'
@@ -70,24 +70,24 @@ use Rattle.network.proofs.call.Code as code
 use Rattle.network.proofs.call.Code.Mir as body
 
 abbrev params : Params call'.ended
-params = (shared-param 0 tt u8, (given-param 1 tt u8, (given-param 2 tt u8, (given-param 3 tt u16, (given-param 4 tt L.the_row, tt)))))
+params = (shared_param 0 tt u8, (given_param 1 tt u8, (given_param 2 tt u8, (given_param 3 tt u16, (given_param 4 tt L.the_row, tt)))))
 
 -- What is drawn, in a local, and what is known of its fields.
 abbrev Drawn : Sketch → Type 0
 Drawn r = Is S.the_row r (S'.lowered r ∷ [])
 
 module _ (r : Sketch) (d : Drawn r) where
-  types-fit : r.types < 2 ^ 64
-  types-fit = (LL.owed S.the_type S'.the_laws r _ d).1.0.1
+  types_fit : r.types < 2 ^ 64
+  types_fit = (LL.owed S.the_type S'.the_laws r _ d).1.0.1
 
-  links-fit : r.links < 2 ^ 64
-  links-fit = (LL.owed S.the_type S'.the_laws r _ d).1.1.0.1
+  links_fit : r.links < 2 ^ 64
+  links_fit = (LL.owed S.the_type S'.the_laws r _ d).1.1.0.1
 
   at-fits : r.at < 2 ^ 64
   at-fits = (LL.owed S.the_type S'.the_laws r _ d).1.1.1.0.1
 
-  answer-is : Is An.the_row r.answer (An'.lowered r.answer ∷ [])
-  answer-is = let p = (LL.owed S.the_type S'.the_laws r _ d).0 in subst (Is An.the_row r.answer) ((An'.lowers).val_is r.answer _ p) p
+  answer_is : Is An.the_row r.answer (An'.lowered r.answer ∷ [])
+  answer_is = let p = (LL.owed S.the_type S'.the_laws r _ d).0 in subst (Is An.the_row r.answer) ((An'.lowers).val_is r.answer _ p) p
 
 module _ {M : Type 1} {𝓤 : Ura M} (𝓛 : Logic 𝓤) (mem : Memory → SProp 𝓤) (run : Routine → Fun 𝓤) where
   open 𝓛 use {H}
@@ -133,23 +133,23 @@ module _ {M : Type 1} {𝓤 : Ura M} (𝓛 : Logic 𝓤) (mem : Memory → SProp
         abbrev At : (result distances links : Item 𝓤) → List (Item 𝓤)
         At u v w = ‵ (flft job.lft job.share) ∷ u ∷ gave states states' ∷ v ∷ w ∷ Cells 𝓛 En values
 
-        module _ (links₁ : List Link) (listed : links₁ ≡ placed (entry links) 0 (linksIn r.types distances'))
+        module _ (links₁ : List Link) (listed : links₁ ≡ placed (entry links) 0 (links_in r.types distances'))
             (l₅ : length links₁ ≡ length (entry links)) where
-          module _ (result'' : List ℕ) (written : result'' ≡ placed result' r.at (tableBytes r.links links₁)) (m₂ : length result'' ≡ length result') where
+          module _ (result'' : List ℕ) (written : result'' ≡ placed result' r.at (table_bytes r.links links₁)) (m₂ : length result'' ≡ length result') where
             module _ (links₂ : List Link) (cleared : links₂ ≡ replicate (length links₁) no_link) (m₅ : length links₂ ≡ length links₁) where
               module _ (distances'' : List ℕ) (zeroed : distances'' ≡ replicate (length distances') 0) (m₄ : length distances'' ≡ length distances') where
                 -- drawn.answer
                 ends : Runs (At (gave result result'') (gave distances distances'') (gave links links₂)) body.t-25
                 ends =
-                    let is = answer-is r d in
+                    let is = answer_is r d in
                     sets ! (of_opd ! (load ! (from ! (fld ! refl (stop !))) (look_in ! 11 (sub ! 0 refl (whole !)))))
                     (init ! 5 refl ((EL.lawful An.the_type An'.the_laws 𝓛 tt).typed r.answer _ is).0) $ returns ! (look ! 5 refl) $ forget ! 5 refl $
-                    frees-locals ! 5 En values refl $
+                    frees_locals ! 5 En values refl $
                     move ! (1 ∷ []) $ split ! $ move ! (3 ∷ []) $ split ! $ move ! (5 ∷ []) $ split ! $ move ! (7 ∷ []) $ split ! $ nothing ! $
                     -- [nothing of the job; links, distances, states and result, each with its token; the job's token]
                     move ! (9 ∷ 8 ∷ 6 ∷ 4 ∷ 2 ∷ 0 ∷ 7 ∷ 5 ∷ 3 ∷ 1 ∷ []) $
                     ends_with ! call'.ended params (call'.clauses 𝓛 mem run) y _ r.answer _
-                    (tt, (m₂ ∙ l₂, (l₃, (m₄ ∙ drawn.distances-size, (m₅ ∙ l₅, tt)))))
+                    (tt, (m₂ ∙ l₂, (l₃, (m₄ ∙ drawn.distances_size, (m₅ ∙ l₅, tt)))))
                     (fact_i 𝓤 _ (emp 𝓤) (called _ _ _ _ _ drawn listed written cleared zeroed)) (EL.makes An.the_type An'.the_plain 𝓛 r.answer _ is)
 
               -- clear_words(distances)
@@ -158,9 +158,9 @@ module _ {M : Type 1} {𝓤 : Ura M} (𝓛 : Logic 𝓤) (mem : Memory → SProp
                   reslices ! 9 30 refl distances.fits $ move ! (3 ∷ []) $ split ! $ move ! (1 ∷ 0 ∷ []) $
                   calls-told 𝓛 (fm_of 𝓤 H 𝓛.laws 𝓣) words'.ended (words'.clauses 𝓛 mem run) known.words _ _ tt
                   (named distances distances.ref.name distances', tt) _ tt ! _ (id⊢ 𝓤 _) (λ _ _. id⊢ 𝓤 _)
-                  (whole-arg ! 31 refl (no_more !)) (λ w u ws told is.
+                  (whole_arg ! 31 refl (no_more !)) (λ w u ws told is.
                   -- [distances' token; distances at exit; the job's token; result; states; links; the locals]
-                  lands-nothing ! 20 refl is $ unslices ! 31 refl $
+                  lands_nothing ! 20 refl is $ unslices ! 31 refl $
                   move ! (1 ∷ []) $ last-list ! (λ l. join ! $ move ! (1 ∷ 2 ∷ 3 ∷ []) $ ends ws.0 told l))
 
             -- clear(links)
@@ -168,24 +168,24 @@ module _ {M : Type 1} {𝓤 : Ura M} (𝓛 : Logic 𝓤) (mem : Memory → SProp
             clears =
                 reslices ! 10 28 refl links.fits $ move ! (4 ∷ []) $ split ! $ move ! (1 ∷ 0 ∷ []) $
                 calls-told 𝓛 (fm_of 𝓤 H 𝓛.laws 𝓣) clear'.ended (clear'.clauses 𝓛 mem run) known.clear _ _ tt
-                (named links links.ref.name links₁, tt) _ tt ! _ (id⊢ 𝓤 _) (λ _ _. id⊢ 𝓤 _) (whole-arg ! 29 refl (no_more !)) (λ w u ws told is.
+                (named links links.ref.name links₁, tt) _ tt ! _ (id⊢ 𝓤 _) (λ _ _. id⊢ 𝓤 _) (whole_arg ! 29 refl (no_more !)) (λ w u ws told is.
                 -- [links' token; links at exit; the job's token; result; states; distances; the locals]
-                lands-nothing ! 20 refl is $ unslices ! 29 refl $
+                lands_nothing ! 20 refl is $ unslices ! 29 refl $
                 move ! (1 ∷ []) $ last-list ! (λ l. join ! $ move ! (1 ∷ 2 ∷ 3 ∷ 4 ∷ []) $ words ws.0 told l))
 
           -- put(links, drawn.links, result, drawn.at)
           puts : Runs (At (held result result') (held distances distances') (held links links₁)) body.t-14
           puts =
               reslices ! 10 24 refl links.fits $ reslices ! 7 26 refl result.fits $ move ! (4 ∷ []) $ lends_shr ! tt links links₁ (λ ν δ.
-              move ! (4 ∷ []) $ split ! $ number ! r.at (at-fits r d) $ number ! r.links (links-fit r d) $
+              move ! (4 ∷ []) $ split ! $ number ! r.at (at-fits r d) $ number ! r.links (links_fit r d) $
               -- [drawn.links; drawn.at; result; its token; ν; links; what is kept of them; the job's token; states; distances; the locals]
               move ! (4 ∷ 3 ∷ 5 ∷ 0 ∷ 2 ∷ 1 ∷ []) $
               calls-told 𝓛 (fm_of 𝓤 H 𝓛.laws 𝓣) put'.ended (put'.clauses 𝓛 mem run) known.put _ _ tt
               (named links δ links₁, (r.links, (named result result.ref.name result', (r.at, tt)))) _ tt ! _
               (fact_i 𝓤 _ (emp 𝓤) (putable _ _ _ _ _ drawn listed)) (λ _ _. id⊢ 𝓤 _)
-              (whole-arg ! 25 refl (field-arg ! 11 2 refl refl (whole-arg ! 27 refl (field-arg ! 11 3 refl refl (no_more !))))) (λ w u ws told is.
+              (whole_arg ! 25 refl (field_arg ! 11 2 refl refl (whole_arg ! 27 refl (field_arg ! 11 3 refl refl (no_more !))))) (λ w u ws told is.
               -- [ν; result's token; result at exit; what is kept of links; the job's token; states; distances; the locals]
-              lands-nothing ! 21 refl is $ unslices ! 26 refl $ unslices ! 28 refl $
+              lands_nothing ! 21 refl is $ unslices ! 26 refl $ unslices ! 28 refl $
               move ! (2 ∷ []) $ last-list ! (λ l. move ! (1 ∷ 3 ∷ []) $ back_shr ! tt links links₁ $ move ! (1 ∷ 2 ∷ []) $ join ! $
               move ! (2 ∷ 0 ∷ 3 ∷ 4 ∷ []) $ clears ws.1.1.0 told l)))
 
@@ -194,15 +194,15 @@ module _ {M : Type 1} {𝓤 : Ura M} (𝓛 : Logic 𝓤) (mem : Memory → SProp
         lists =
             reslices ! 9 20 refl distances.fits $ reslices ! 10 22 refl links.fits $
             move ! (3 ∷ []) $ lends_shr ! tt distances distances' (λ ν δ. move ! (6 ∷ []) $ lends ! tt links (entry links) (λ ν' δ'.
-            number ! r.links (links-fit r d) $ number ! r.types (types-fit r d) $
+            number ! r.links (links_fit r d) $ number ! r.types (types_fit r d) $
             -- [drawn.types; drawn.links; ν'; links; what is kept of them; ν; distances; what is kept of them; the job's token; result; states; the locals]
             move ! (5 ∷ 2 ∷ 6 ∷ 0 ∷ 1 ∷ 3 ∷ []) $
             calls-told 𝓛 (fm_of 𝓤 H 𝓛.laws 𝓣) list'.ended (list'.clauses 𝓛 mem run) known.list _ _ tt
             (named distances δ distances', (r.types, (r.links, (named links δ' (entry links), tt)))) _ tt ! _
             (fact_i 𝓤 _ (emp 𝓤) (listable _ _ _ _ _ drawn)) (λ _ _. id⊢ 𝓤 _)
-            (whole-arg ! 22 refl (field-arg ! 12 1 refl refl (field-arg ! 12 2 refl refl (whole-arg ! 24 refl (no_more !))))) (λ w u ws told is.
+            (whole_arg ! 22 refl (field_arg ! 12 1 refl refl (field_arg ! 12 2 refl refl (whole_arg ! 24 refl (no_more !))))) (λ w u ws told is.
             -- [ν; ν'; links at exit; what is kept of links and of distances; the job's token; result; states; the locals]
-            lands-nothing ! 22 refl is $ unslices ! 23 refl $ unslices ! 25 refl $
+            lands_nothing ! 22 refl is $ unslices ! 23 refl $ unslices ! 25 refl $
             move ! (2 ∷ []) $ last-list ! (λ l. move ! (2 ∷ 3 ∷ 0 ∷ []) $ back ! tt links (entry links) ws.1.1.1.0 l $
             move ! (1 ∷ 2 ∷ []) $ back_shr ! tt distances distances' $ move ! (2 ∷ 3 ∷ 4 ∷ []) $ puts ws.1.1.1.0 told l))))
 
@@ -220,7 +220,7 @@ module _ {M : Type 1} {𝓤 : Ura M} (𝓛 : Logic 𝓤) (mem : Memory → SProp
           calls-told 𝓛 (fm_of 𝓤 H 𝓛.laws 𝓣) answer'.ended (answer'.clauses 𝓛 mem run) known.answer _ _ tt
           (job.ref, (named result δ (entry result), (states.ref, (named distances δ' (entry distances), (length (entry links), tt))))) _ tt ! _
           (id⊢ 𝓤 _) (λ _ _. id⊢ 𝓤 _)
-          (whole-arg ! 5 refl (whole-arg ! 12 refl (whole-arg ! 14 refl (whole-arg ! 16 refl (whole-arg ! 17 refl (no_more !)))))) (λ w r ws told is.
+          (whole_arg ! 5 refl (whole_arg ! 12 refl (whole_arg ! 14 refl (whole_arg ! 16 refl (whole_arg ! 17 refl (no_more !)))))) (λ w r ws told is.
           let one : w ∷ [] ≡ S'.lowered r ∷ [] = (S'.lowers).val_is r (w ∷ []) is in
           -- [the job's token; ν; states' token; ν'; result, states and distances at exit; what is kept of distances and result; links; the locals]
           land ! (from ! (stop !)) (init ! 16 refl ((LL.lawful S.the_type S'.the_laws 𝓛).typed r _ is).0) $
@@ -235,9 +235,9 @@ module _ {M : Type 1} {𝓤 : Ura M} (𝓛 : Logic 𝓤) (mem : Memory → SProp
         enters ! 𝓣.C 𝓣.Λ code.function (CallC.args y) Post
         (well_typed job, (well_typed result, (well_typed states, (well_typed distances, (well_typed links, tt))))) answers
 
-pub call-spec : {M : Type 1} → stated.statement M
+pub call_spec : {M : Type 1} → stated.statement M
 unfolding code.routine tables_of
-call-spec 𝓤 𝓛 𝓜 𝓡 =
+call_spec 𝓤 𝓛 𝓜 𝓡 =
     meets 𝓛 𝓜 𝓡 call'.ended params (call'.clauses 𝓛 𝓜.mem 𝓡.run) code.env #network·call code.function (code.unfolded 𝓤 𝓛.H 𝓜 𝓡)
     (λ κs qs bounds a g are. drop ! $ walk 𝓛 𝓜.mem 𝓡.run (tables_of 𝓤 𝓛.H 𝓜 (tables 𝓤 𝓛.H 𝓜 𝓡 code.env)) (record {
       answer = cited 𝓤 𝓛.H _ 𝓜 𝓡 code.env answer-def.name answer-def.routine code.calls-network::sketch (answer-thm.met 𝓤 𝓛 𝓜 𝓡);
@@ -246,4 +246,4 @@ call-spec 𝓤 𝓛 𝓜 𝓡 =
       clear = cited 𝓤 𝓛.H _ 𝓜 𝓡 code.env clear-def.name clear-def.routine code.calls-result::table::clear-links (clear-thm.met 𝓤 𝓛 𝓜 𝓡);
       words = cited 𝓤 𝓛.H _ 𝓜 𝓡 code.env words-def.name words-def.routine code.calls-memory::clear-words (words-thm.met 𝓤 𝓛 𝓜 𝓡);
     })
-    (areas-of κs qs a are))
+    (areas_of κs qs a are))

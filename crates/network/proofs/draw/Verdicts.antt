@@ -10,31 +10,31 @@ use lib.ListN.{length}
 use Rattle.graph.specs.Below.{gather}
 use borrow.Author.Tests.{eq-eqb, ne_eqb}
 use Rattle.rules.specs.Answers.{number, when◌refuse◌else◌, passed}
-use Rattle.rules.specs.Job.{Bytes, width, weights, jobRows, checked}
-use Rattle.rules.specs.Lent.{Lent, areaShort}
-use Rattle.rules.specs.Types.{tooMany, row129}
+use Rattle.rules.specs.Job.{Bytes, width, weights, job_rows, checked}
+use Rattle.rules.specs.Lent.{Lent, area_short}
+use Rattle.rules.specs.Types.{has_too_many, row129}
 use Rattle.rules.specs.Purge.{Run}
-use Rattle.rules.specs.Run.{Outcome, settled, full, Network, phaseTwo}
+use Rattle.rules.specs.Run.{Outcome, settled, full, Network, phase_two}
 use Rattle.rules.specs.Result.{block}
 use Rattle.rules.specs.Call.{Verdict, refused, found, ◌then◌, ended, outcome, verdict, answer}
 use Rattle.rules.specs.declared.Answer.{Answer}
 use Rattle.rules.specs.declared.Answer.TheVariants.{Done, Area, Types}
 use Rattle.memory.specs.Placed.{placed}
 use Rattle.memory.proofs.Placed.{placed-none}
-use Rattle.purge.specs.Network.{linksIn}
+use Rattle.purge.specs.Network.{links_in}
 use Rattle.result.specs.Front.{front}
-use Rattle.answers.specs.Told.{firstOf}
+use Rattle.answers.specs.Told.{first_of}
 use Rattle.answers.proofs.First.{neither-refuses}
-use Rattle.run.specs.Ran.{runAnswer, ranTo}
-use Rattle.readback.proofs.Found.{never-split-network}
-use Rattle.job.specs.Areas.{areasAnswer}
+use Rattle.run.specs.Ran.{run_answer, ran_to}
+use Rattle.readback.proofs.Found.{never_split-network}
+use Rattle.job.specs.Areas.{areas_answer}
 use Rattle.network.specs.Drawn.{Sketched, unsketched}
 use Rattle.network.specs.declared.draw.Sketch.{Sketch}
 
 -- Two tests, one behind the other.
 module _ (a b : Answer) (next : Verdict) where
-  two-refuse : number (firstOf a b) ≢ 0 → (a then b then next) ≡ refused (firstOf a b)
-  two-refuse = go (eqb (number a) 0) refl
+  two_refuse : number (first_of a b) ≢ 0 → (a then b then next) ≡ refused (first_of a b)
+  two_refuse = go (eqb (number a) 0) refl
     where
       go : (t : Bool) → eqb (number a) 0 ≡ t → number (cond t b a) ≢ 0 → cond t (b then next) (refused a) ≡ refused (cond t b a)
       go true e n = rw (ne_eqb (number b) 0 n)
@@ -49,63 +49,63 @@ passes-areas false z = refl
 
 module _ (lent : Lent) (job : Bytes) where
   -- Checks 1 to 7: the first that refuses, or none does.
-  abbrev firstRefusal : Answer
-  firstRefusal = firstOf (areasAnswer lent) (checked job)
+  abbrev first_refusal : Answer
+  first_refusal = first_of (areas_answer lent) (checked job)
 
-  pub first-verdict : number firstRefusal ≢ 0 → verdict lent job ≡ refused firstRefusal
+  pub first-verdict : number first_refusal ≢ 0 → verdict lent job ≡ refused first_refusal
   unfolding verdict
-  first-verdict n = two-refuse (areasAnswer lent) (checked job) _ n
+  first-verdict n = two_refuse (areas_answer lent) (checked job) _ n
 
-  pub first-passed : number firstRefusal ≡ 0 → (areaShort lent ≡ false) × (number (checked job) ≡ 0)
-  first-passed z = let (p, q) = neither-refuses (areasAnswer lent) (checked job) z in (passes-areas _ p, q)
+  pub first-passed : number first_refusal ≡ 0 → (area_short lent ≡ false) × (number (checked job) ≡ 0)
+  first-passed z = let (p, q) = neither-refuses (areas_answer lent) (checked job) z in (passes-areas _ p, q)
 
-  module _ (areas : areaShort lent ≡ false) (pass : number (checked job) ≡ 0) where
-    abbrev typesAnswer : Answer
-    typesAnswer = when tooMany (jobRows job) refuse Types (row129 (jobRows job)) else passed
+  module _ (areas : area_short lent ≡ false) (pass : number (checked job) ≡ 0) where
+    abbrev types_answer : Answer
+    types_answer = when has_too_many (job_rows job) refuse Types (row129 (job_rows job)) else passed
 
-    run-verdict : verdict lent job ≡ (typesAnswer then ended (weights job) (outcome job))
+    run-verdict : verdict lent job ≡ (types_answer then ended (weights job) (outcome job))
     unfolding verdict
-    run-verdict = two-pass (areasAnswer lent) (checked job) _ (rw areas) pass
+    run-verdict = two-pass (areas_answer lent) (checked job) _ (rw areas) pass
 
     -- What the run answers is the verdict, and so is its network.
-    pub ran-refused : number (runAnswer job) ≢ 0 → verdict lent job ≡ refused (runAnswer job)
-    ran-refused n = run-verdict ∙ go (tooMany (jobRows job)) (outcome job) n
+    pub ran-refused : number (run_answer job) ≢ 0 → verdict lent job ≡ refused (run_answer job)
+    ran-refused n = run-verdict ∙ go (has_too_many (job_rows job)) (outcome job) n
       where
-        go : (t : Bool) (o : Outcome) → number (when t refuse Types (row129 (jobRows job)) else ranTo o) ≢ 0 →
-            ((when t refuse Types (row129 (jobRows job)) else passed) then ended (weights job) o) ≡ refused (when t refuse Types (row129 (jobRows job)) else ranTo o)
+        go : (t : Bool) (o : Outcome) → number (when t refuse Types (row129 (job_rows job)) else ran_to o) ≢ 0 →
+            ((when t refuse Types (row129 (job_rows job)) else passed) then ended (weights job) o) ≡ refused (when t refuse Types (row129 (job_rows job)) else ran_to o)
         go true o m = refl
         go false (full round) m = refl
         go false (settled run) m = absurd (m refl)
 
-    pub ran-found : number (runAnswer job) ≡ 0 → (end : Run) → outcome job ≡ settled end → verdict lent job ≡ found (phaseTwo (weights job) end)
-    ran-found z end e = run-verdict ∙ rw e (go (tooMany (jobRows job)) z)
+    pub ran-found : number (run_answer job) ≡ 0 → (end : Run) → outcome job ≡ settled end → verdict lent job ≡ found (phase_two (weights job) end)
+    ran-found z end e = run-verdict ∙ rw e (go (has_too_many (job_rows job)) z)
       where
-        go : (t : Bool) → number (when t refuse Types (row129 (jobRows job)) else ranTo (outcome job)) ≡ 0 →
-            ((when t refuse Types (row129 (jobRows job)) else passed) then ended (weights job) (settled end)) ≡ found (phaseTwo (weights job) end)
+        go : (t : Bool) → number (when t refuse Types (row129 (job_rows job)) else ran_to (outcome job)) ≡ 0 →
+            ((when t refuse Types (row129 (job_rows job)) else passed) then ended (weights job) (settled end)) ≡ found (phase_two (weights job) end)
         go true m = absurd (let n : 8 ≡ 0 = m in omega arith)
-        go false m = rw (never-split-network (weights job) end)
+        go false m = rw (never_split-network (weights job) end)
 
   -- A refusal writes nothing; a network is written to the front of the result, and its links are still in the distance area.
   pub wrote_nothing : (result : Bytes) (distances : List ℕ) (a : Answer) → verdict lent job ≡ refused a → Sketched lent job result (unsketched a) result distances
-  unfolding answer linksIn gather
+  unfolding answer links_in gather
   wrote_nothing result distances a e = record {
     answered = rw e;
-    result-is = rw e (placed-none result 0);
-    at-is = rw e;
+    result_is = rw e (placed-none result 0);
+    at_is = rw e;
     types_are = rw e;
-    links-are = rw e;
-    count-is = rw e;
+    links_are = rw e;
+    count_is = rw e;
   }
 
   pub wrote-network : {result result' : Bytes} {distances : List ℕ} {r : Sketch} (net : Network) → verdict lent job ≡ found net →
       r.answer ≡ Done (length (block (width job) net)) → result' ≡ placed result 0 (front (width job) net) → r.at ≡ length (front (width job) net) →
-      r.types ≡ length net.types → linksIn r.types distances ≡ net.links → r.links ≡ length net.links → Sketched lent job result r result' distances
+      r.types ≡ length net.types → links_in r.types distances ≡ net.links → r.links ≡ length net.links → Sketched lent job result r result' distances
   unfolding answer
   wrote-network net e a w at t l n = record {
     answered = a ∙ rw e;
-    result-is = w ∙ rw e;
-    at-is = at ∙ rw e;
+    result_is = w ∙ rw e;
+    at_is = at ∙ rw e;
     types_are = t ∙ rw e;
-    links-are = l ∙ rw e;
-    count-is = n ∙ rw e;
+    links_are = l ∙ rw e;
+    count_is = n ∙ rw e;
   }

@@ -5,51 +5,51 @@ use mathlib.Core.List.{List}
 use Prim.Native.Nat.{ℕ, ◌-◌, ◌≤◌, ◌<◌}
 use native.Mathlib.Omega.{arith}
 use lib.ListN.{length}
-use Rattle.graph.proofs.Below.{length-table, getD-table}
+use Rattle.graph.proofs.Below.{length-table, get_or-table}
 use Rattle.rules.specs.Answers.{number}
 use Rattle.rules.specs.Job.{Bytes, width, weights, checked}
-use Rattle.rules.specs.Types.{nodeAt}
-use Rattle.rules.specs.Lent.{least, areaShort}
+use Rattle.rules.specs.Types.{node_at}
+use Rattle.rules.specs.Lent.{least, area_short}
 use Rattle.rules.specs.Purge.{Run}
-use Rattle.rules.specs.Run.{Network, phaseTwo}
-use Rattle.rules.specs.Result.{recordOf, block}
+use Rattle.rules.specs.Run.{Network, phase_two}
+use Rattle.rules.specs.Result.{record_of, block}
 use Rattle.rules.specs.Call.{found, verdict}
 use Rattle.rules.specs.declared.Origin.{Origin}
 use Rattle.rules.specs.declared.Origin.TheVariants.{Sampled, Inferred}
 use Rattle.rules.proofs.Job.{passed_is}
-use Rattle.rules.proofs.Block.{Fits16, sampledCount}
-use Rattle.types.specs.State.{nodesIn}
-use Rattle.purge.specs.Network.{networkIn}
+use Rattle.rules.proofs.Block.{Fits16, sampled_count}
+use Rattle.types.specs.State.{nodes_in}
+use Rattle.purge.specs.Network.{network_in}
 use Rattle.result.specs.Records.{OriginFits, kind_at}
 use Rattle.result.specs.FrontWritten.{Writable}
 use Rattle.run.specs.declared.start.Ended.{Ended}
-use Rattle.run.specs.Ran.{Ran, runAnswer}
+use Rattle.run.specs.Ran.{Ran, run_answer}
 use Rattle.run.proofs.Once.{settles, ran-few}
 use Rattle.readback.proofs.Result.{numbers_fit, few-rounds, block-short}
 use Rattle.network.proofs.draw.Verdicts.{ran-found}
 
 -- The least memory is long enough.
-least-enough : areaShort least ≡ false
-unfolding areaShort
+least-enough : area_short least ≡ false
+unfolding area_short
 least-enough = refl
 
-origin-fits : (o : Origin) (index : ℕ) → Fits16 (recordOf o index) → OriginFits o
+origin-fits : (o : Origin) (index : ℕ) → Fits16 (record_of o index) → OriginFits o
 origin-fits (Sampled rows first) index f = (omega (arith, f.0), omega (arith, f.1.0))
 origin-fits (Inferred round) index f = omega (arith, f.1.1.0)
 
 module _ {job states : Bytes} {area : List ℕ} {n cells : ℕ} {r : Ended}
     (pass : number (checked job) ≡ 0) (ran : Ran job n cells states area r) (done : number r.answer ≡ 0) where
-  pub ran-done : number (runAnswer job) ≡ 0
+  pub ran-done : number (run_answer job) ≡ 0
   ran-done = rw ran.answered at done
 
   abbrev end : Run
   end = (settles job ran-done).0
 
   abbrev net : Network
-  net = phaseTwo (weights job) end
+  net = phase_two (weights job) end
 
   -- Memory tells the network of the rules.
-  pub told : networkIn (width job) states area r.held ≡ net
+  pub told : network_in (width job) states area r.held ≡ net
   told = ran.network ran-done end (settles job ran-done).1
 
   drawn : verdict least job ≡ found net
@@ -59,33 +59,33 @@ module _ {job states : Bytes} {area : List ℕ} {n cells : ℕ} {r : Ended}
     abbrev t : ℕ
     t = r.held.state.types
 
-    types_are : net.types ≡ nodesIn (width job) t states r.held.kinds
-    unfolding networkIn
+    types_are : net.types ≡ nodes_in (width job) t states r.held.kinds
+    unfolding network_in
     types_are = sym (ap (λ n. n.types) told)
 
     type-count : length net.types ≡ t
-    unfolding nodesIn
+    unfolding nodes_in
     type-count = ap length types_are ∙ length-table t _
 
-    origin-at : (k : ℕ) → k < t → (nodeAt net.types k).origin ≡ (kind_at r.held.kinds k).origin
-    unfolding nodesIn
-    origin-at k h = ap (λ n. n.origin) (ap (λ ts. nodeAt ts k) types_are ∙ getD-table t _ k _ h)
+    origin-at : (k : ℕ) → k < t → (node_at net.types k).origin ≡ (kind_at r.held.kinds k).origin
+    unfolding nodes_in
+    origin-at k h = ap (λ n. n.origin) (ap (λ ts. node_at ts k) types_are ∙ get_or-table t _ k _ h)
 
-    rounds-are : net.rounds ≡ r.held.state.rounds
-    unfolding networkIn
-    rounds-are = sym (ap (λ n. n.rounds) told)
+    rounds_are : net.rounds ≡ r.held.state.rounds
+    unfolding network_in
+    rounds_are = sym (ap (λ n. n.rounds) told)
 
   -- Its block is short.
-  pub short : length (block (width job) (networkIn (width job) states area r.held)) ≤ 57680
+  pub short : length (block (width job) (network_in (width job) states area r.held)) ≤ 57680
   short = rw told (block-short least job net drawn)
 
   pub ready : (result : Bytes) → 8192 ≤ n → 16384 ≤ cells → 57680 ≤ length result → Writable (width job) states area r.held result
   ready result a b c = record {
     narrow = (passed_is job pass).width-within.at_most;
     few = ran-few ran done;
-    states-fit = omega (arith, ran.states-size);
-    cells_fit = omega (arith, ran.area-size);
-    origins-fit = λ k h. rw (← origin-at k h) (origin-fits (nodeAt net.types k).origin (k - sampledCount net) ((numbers_fit least job net drawn).record-fits k (rw type-count h)));
-    rounds-fit = omega (arith, rounds-are, few-rounds least job net drawn);
+    states_fit = omega (arith, ran.states_size);
+    cells_fit = omega (arith, ran.area_size);
+    origins_fit = λ k h. rw (← origin-at k h) (origin-fits (node_at net.types k).origin (k - sampled_count net) ((numbers_fit least job net drawn).record_fits k (rw type-count h)));
+    rounds_fit = omega (arith, rounds_are, few-rounds least job net drawn);
     room = omega (arith, short);
   }

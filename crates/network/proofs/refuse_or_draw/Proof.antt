@@ -5,9 +5,9 @@ use borrow.Author.Rules.{rules}
 use Rattle.rules.specs.Answers.{number}
 use Rattle.rules.specs.Job.{checked}
 use Rattle.rules.specs.declared.Answer.{Answer}
-use Rattle.answers.specs.Told.{firstOf}
+use Rattle.answers.specs.Told.{first_of}
 use Rattle.readback.proofs.Lent.{enough}
-use Rattle.job.specs.Areas.{lengths, areasAnswer}
+use Rattle.job.specs.Areas.{lengths, areas_answer}
 use Rattle.network.proofs.draw.Verdicts.{first-passed}
 use Rattle.network.proofs.Steps.{answered-first, answered-drawn}
 use Rattle.network.proofs.refuse_or_draw.Statement.{statement}
@@ -20,10 +20,10 @@ entry c = c.before.before.before.before.before.before.before
 abbrev first : tie.After-first-of → Answer
 first c =
     let a = (entry c).args in
-    firstOf (areasAnswer (lengths (length a.result.now) (length a.states.now) (length a.distances.now) a.links)) (checked a.job.now)
+    first_of (areas_answer (lengths (length a.result.now) (length a.states.now) (length a.distances.now) a.links)) (checked a.job.now)
 
 first-is : (c : tie.After-first-of) → c.first_of.result ≡ first c
-first-is c = c.first_of.ensures ∙ ap₂ firstOf c.before.before.check-areas.ensures c.before.check.ensures
+first-is c = c.first_of.ensures ∙ ap₂ first_of c.before.before.check-areas.ensures c.before.check.ensures
 
 abbrev tried : tie.Else1 → tie.After-first-of
 tried c = c.before.before.before

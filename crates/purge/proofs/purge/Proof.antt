@@ -1,7 +1,7 @@
 -- `purge::purge` meets its contract: whenever links were found, memory holds a run that purges to what the run at entry purges to.
 use Prim.Native.Nat.{◌<◌}
 use native.Mathlib.Omega.{arith}
-use Rattle.purge.proofs.Purging.{Purging, purging-none, purging-chosen, fewer-types, same-phase, one-time-more, all-purged}
+use Rattle.purge.proofs.Purging.{Purging, purging_none, purging_chosen, fewer-types, same_phase, one_time_more, all-purged}
 use Rattle.purge.proofs.purge.Statement.{statement}
 use Rattle.purge.proofs.purge.Tie as tie
 
@@ -20,7 +20,7 @@ loop-holds : tie.Need-loop-init invariant-loop decreases-loop
 loop-holds c =
     let s = c.before.before in
     let p = s.before.before.before.before.requires in
-    purging-none p.0 p.1 s.survey.ensures
+    purging_none p.0 p.1 s.survey.ensures
 
 purge-once-requires : tie.Need-purge-once-requires invariant-loop decreases-loop
 purge-once-requires c κs =
@@ -28,7 +28,7 @@ purge-once-requires c κs =
     let inv = a.loop.invariant in
     let p = a.before.before.before.before.before.before.before.requires in
     let s = a.before.before.before.survey.ensures in
-    (purging-chosen inv, inv.within, inv.full, omega (arith, inv.states-size, p.3), omega (arith, inv.area-size, s.found.size, p.4))
+    (purging_chosen inv, inv.within, inv.full, omega (arith, inv.states_size, p.3), omega (arith, inv.area_size, s.found.size, p.4))
 
 survey-requires-2 : tie.Need-survey-requires-2 invariant-loop decreases-loop
 survey-requires-2 c κs =
@@ -39,8 +39,8 @@ survey-requires-2 c κs =
     let s = a.before.before.before.survey.ensures in
     let once = f.purge-once.ensures in (
       omega (arith, fewer-types inv (fewer f) once, inv.within, inv.full),
-      rw (same-phase inv (fewer f) once) p.2,
-      omega (arith, once.distances-are.size, inv.area-size, s.found.size, p.4),
+      rw (same_phase inv (fewer f) once) p.2,
+      omega (arith, once.distances_are.size, inv.area_size, s.found.size, p.4),
     )
 
 loop-less : tie.Need-loop-smaller invariant-loop decreases-loop
@@ -53,7 +53,7 @@ loop-again c =
     let f = c.before.before.before.before.before.before.before.before in
     let a = f.before.before.before.before.before.before in
     let p = a.before.before.before.before.before.before.before.requires in
-    one-time-more a.loop.invariant (fewer f) f.purge-once.ensures p.3 c.before.before.survey2.ensures
+    one_time_more a.loop.invariant (fewer f) f.purge-once.ensures p.3 c.before.before.survey2.ensures
 
 returns : tie.Need-returns invariant-loop decreases-loop
 returns c =

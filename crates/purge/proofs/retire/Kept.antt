@@ -11,8 +11,8 @@ use native.Mathlib.Omega.{arith}
 use borrow.Author.Tests.{eq-eqb, ne_eqb}
 use lib.ListN.{get_or}
 use Rattle.graph.specs.Below.{table, gather, given, only}
-use Rattle.graph.proofs.Below.{some-true, some-false, gather-more, gather-table}
-use Rattle.purge.specs.Left.{Chosen, isKept}
+use Rattle.graph.proofs.Below.{some_true, some_false, gather-more, gather-table}
+use Rattle.purge.specs.Left.{Chosen, is_kept}
 
 -- Of the kept places the first a lie below i, and the others do not.
 pub record Upto (kept : List ℕ) (count i a : ℕ) : Type 0 where
@@ -27,8 +27,8 @@ upto-none kept count = record { few = omega arith; passed = λ b h. absurd (not-
 abbrev pub Next : List ℕ → ℕ → ℕ → ℕ → Type 0
 Next kept count i a = (a < count) × (get_or kept a 0 ≡ i)
 
-next-dec : (kept : List ℕ) (count i a : ℕ) → Dec (Next kept count i a)
-next-dec kept count i a = elim (dec_lt a count) [
+next_dec : (kept : List ℕ) (count i a : ℕ) → Dec (Next kept count i a)
+next_dec kept count i a = elim (dec_lt a count) [
   | yes l ↦ elim (ℕ_discrete (get_or kept a 0) i) [ yes e ↦ yes (l, e) | no ne ↦ no (λ n. ne n.1) ]
   | no nl ↦ no (λ n. nl n.0)
 ]
@@ -48,8 +48,8 @@ module _ {kept : List ℕ} {count t : ℕ} (chosen : Chosen kept count t) where
     ]
 
     -- Place i is the next kept one, or it is not kept.
-    pub next-kept : Next kept count i a → isKept kept count i ≡ true
-    next-kept n = (some-true count _).1 (a, n.0, eq-eqb _ i n.1)
+    pub next-kept : Next kept count i a → is_kept kept count i ≡ true
+    next-kept n = (some_true count _).1 (a, n.0, eq-eqb _ i n.1)
 
     pub next-upto : Next kept count i a → Upto kept count (i + 1) (a + 1)
     next-upto n = record {
@@ -69,8 +69,8 @@ module _ {kept : List ℕ} {count t : ℕ} (chosen : Chosen kept count t) where
         ];
       }
 
-      pub other-gone : isKept kept count i ≡ false
-      other-gone = (some-false count _).1 (λ b h. ne_eqb _ i (λ e. elim (dec_lt b a) [
+      pub other-gone : is_kept kept count i ≡ false
+      other-gone = (some_false count _).1 (λ b h. ne_eqb _ i (λ e. elim (dec_lt b a) [
         | yes l ↦ omega (arith, upto.passed b l)
         | no l ↦ omega (arith, other_upto.ahead b (omega arith) h)
       ]))
@@ -78,19 +78,19 @@ module _ {kept : List ℕ} {count t : ℕ} (chosen : Chosen kept count t) where
   -- What is gathered of the kept places below i is that of the first a of them.
   module _ {A : Type 0} (f : ℕ → List A) where
     gathered : (i : ℕ) →
-        (a : ℕ) × Upto kept count i a × (gather i (λ k. given (isKept kept count k) (f k)) ≡ gather a (λ b. f (get_or kept b 0)))
+        (a : ℕ) × Upto kept count i a × (gather i (λ k. given (is_kept kept count k) (f k)) ≡ gather a (λ b. f (get_or kept b 0)))
     unfolding gather
     gathered zero = (0, upto-none kept count, refl)
     gathered (suc i) =
         let (a, u, e) = gathered i in
-        elim (next-dec kept count i a) [
+        elim (next_dec kept count i a) [
           | yes n ↦ (a + 1, rw (add-one i) at (next-upto u n), rw (gather-more, next-kept u n, n.1, e))
           | no n ↦ (a, rw (add-one i) at (other_upto u n), rw (other-gone u n, append-nil) e)
         ]
 
-    pub kept-gathers : gather t (λ k. given (isKept kept count k) (f k)) ≡ gather count (λ a. f (get_or kept a 0))
+    pub kept-gathers : gather t (λ k. given (is_kept kept count k) (f k)) ≡ gather count (λ a. f (get_or kept a 0))
     kept-gathers = let (a, u, e) = gathered t in rw (upto_all u (omega arith)) at e
 
   -- So the kept places give a table.
-  pub kept-gather : {A : Type 0} (f : ℕ → A) → gather t (λ k. only (isKept kept count k) (f k)) ≡ table count (λ a. f (get_or kept a 0))
+  pub kept-gather : {A : Type 0} (f : ℕ → A) → gather t (λ k. only (is_kept kept count k) (f k)) ≡ table count (λ a. f (get_or kept a 0))
   kept-gather f = kept-gathers (λ k. f k ∷ []) ∙ gather-table count (λ a. f (get_or kept a 0))

@@ -6,10 +6,10 @@ use native.Mathlib.Omega.{arith}
 use lib.ListN.{length, get_or, take, drop, set, length-append, length-drop}
 use lib.Seq.{length-take-le, get_or-drop}
 use Rattle.rules.specs.Job.{Bytes}
-use Rattle.rules.proofs.Block.{Stands, stands-in, stands-front, stands-rear, stands-part}
+use Rattle.rules.proofs.Block.{Stands, stands_in, stands_front, stands_rear, stands_part}
 use Rattle.types.specs.State.{stored_at, rows_from}
 use Rattle.memory.specs.Placed.{placed}
-use Rattle.memory.proofs.Placed.{placed-none, stands-placed, getD-placed-behind, placed-over, placed-twice, taken_more, length-placed}
+use Rattle.memory.proofs.Placed.{placed-none, stands_placed, get_or-placed-behind, placed_over, placed-twice, taken_more, length-placed}
 
 -- The bytes from row i on, up to byte c, have moved down by a row.
 abbrev pub moved : Bytes → ℕ → ℕ → Bytes
@@ -30,7 +30,7 @@ module _ (b : Bytes) (i c : ℕ) where
       let one : c + 1 - 64 * i ≡ k + 1 = omega arith in
       let from : 64 * (i + 1) + k ≡ c + 64 = omega arith in
       let v : get_or now (c + 64) 0 ≡ get_or s k 0 =
-      ap (λ (x : Bytes). get_or x (c + 64) 0) e ∙ getD-placed-behind b (take k s) (64 * i) (omega arith) (c + 64) 0 (omega arith)
+      ap (λ (x : Bytes). get_or x (c + 64) 0) e ∙ get_or-placed-behind b (take k s) (64 * i) (omega arith) (c + 64) 0 (omega arith)
       ∙ ap (λ (p : ℕ). get_or b p 0) (sym from) ∙ sym (get_or-drop (64 * (i + 1)) b k 0) in
       rw (v, one) (ap (λ (p : ℕ). set now p (get_or s k 0)) at ∙ taken_more b s now (64 * i) k (omega arith) (omega arith) e)
 
@@ -50,16 +50,16 @@ pub row-to-end : (b xs row ys : Bytes) (a made : ℕ) → length xs ≡ 64 * a �
     a < made → 64 * made ≤ length b → (area : Bytes) → area ≡ placed b 0 (xs ++ (row ++ ys)) →
     placed area (64 * a) (rows_from area (a + 1) made ++ stored_at area a) ≡ placed b 0 (xs ++ (ys ++ row))
 row-to-end b xs row ys a made ex er ey h l area is =
-    let all = stands-placed b (xs ++ (row ++ ys)) 0 (omega arith) in
-    let behind = stands-in all (stands-rear xs (row ++ ys) ex) refl in
+    let all = stands_placed b (xs ++ (row ++ ys)) 0 (omega arith) in
+    let behind = stands_in all (stands_rear xs (row ++ ys) ex) refl in
     let whole = placed b 0 (xs ++ (row ++ ys)) in
-    let first : Stands whole (64 * a) row = stands-in behind (stands-front row ys) (omega arith) in
-    let later : Stands whole (64 * (a + 1)) ys = stands-in behind (stands-rear row ys er) (omega arith) in
-    let here : stored_at area a ≡ row = rw is (rw er at (stands-part first)) in
-    let rest : rows_from area (a + 1) made ≡ ys = rw is (rw ey at (stands-part later)) in
+    let first : Stands whole (64 * a) row = stands_in behind (stands_front row ys) (omega arith) in
+    let later : Stands whole (64 * (a + 1)) ys = stands_in behind (stands_rear row ys er) (omega arith) in
+    let here : stored_at area a ≡ row = rw is (rw er at (stands_part first)) in
+    let rest : rows_from area (a + 1) made ≡ ys = rw is (rw ey at (stands_part later)) in
     let base = placed b 0 xs in
     let size = length-placed b xs 0 (omega arith) in
     let twice : (zs : Bytes) → placed base (64 * a) zs ≡ placed b 0 (xs ++ zs) =
     λ zs. placed-twice b xs 0 (omega arith) (64 * a) zs (omega arith) in
     rw (here, rest, is, ← twice (row ++ ys))
-    (placed-over base (row ++ ys) (64 * a) (omega arith) (ys ++ row) (omega (arith, length-append row ys, length-append ys row)) ∙ twice (ys ++ row))
+    (placed_over base (row ++ ys) (64 * a) (omega arith) (ys ++ row) (omega (arith, length-append row ys, length-append ys row)) ∙ twice (ys ++ row))

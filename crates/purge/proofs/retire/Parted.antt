@@ -12,10 +12,10 @@ use Rattle.graph.proofs.Below.{gather-more}
 use Rattle.rules.specs.Job.{Bytes}
 use Rattle.rules.proofs.Block.{length-parts}
 use Rattle.types.specs.State.{stored_at, rows_from}
-use Rattle.types.proofs.State.{length-storedAt}
+use Rattle.types.proofs.State.{length-stored_at}
 use Rattle.memory.specs.Placed.{placed}
 use Rattle.memory.proofs.Placed.{length-placed}
-use Rattle.purge.specs.Left.{Chosen, isKept, parted}
+use Rattle.purge.specs.Left.{Chosen, is_kept, parted}
 use Rattle.purge.proofs.retire.Kept.{Upto, Next, upto-none, next-kept, next-upto, other_upto, other-gone}
 use Rattle.purge.proofs.retire.Moved.{row-to-end}
 
@@ -45,15 +45,15 @@ both-lengths (suc n) p f =
 -- Of the first i rows those that stay, and those that go.
 module _ (kept : List ℕ) (count : ℕ) (b : Bytes) where
   abbrev stays : ℕ → Bytes
-  stays i = gather i (λ k. given (isKept kept count k) (stored_at b k))
+  stays i = gather i (λ k. given (is_kept kept count k) (stored_at b k))
 
   abbrev goes : ℕ → Bytes
-  goes i = gather i (λ k. given (not (isKept kept count k)) (stored_at b k))
+  goes i = gather i (λ k. given (not (is_kept kept count k)) (stored_at b k))
 
   both-sized : (i : ℕ) → 64 * i ≤ length b → length (stays i) + length (goes i) ≡ 64 * i
   both-sized i h =
-      let n = length-parts 64 i (stored_at b) (λ k l. length-storedAt b k (omega arith)) in
-      omega (arith, both-lengths i (isKept kept count) (stored_at b))
+      let n = length-parts 64 i (stored_at b) (λ k l. length-stored_at b k (omega arith)) in
+      omega (arith, both-lengths i (is_kept kept count) (stored_at b))
 
   pub parted-size : (i made : ℕ) → i ≤ made → 64 * made ≤ length b → length (parted kept count i made b) ≡ 64 * made
   unfolding parted
@@ -61,10 +61,10 @@ module _ (kept : List ℕ) (count : ℕ) (b : Bytes) where
       let n = length-take-le (64 * (made - i)) (drop (64 * i) b) (rw length-drop (omega arith)) in
       rw (length-append, length-append) (omega (arith, both-sized i (omega arith)))
 
-  stays-more : (i : ℕ) → isKept kept count i ≡ true → (stays (i + 1) ≡ stays i ++ stored_at b i) × (goes (i + 1) ≡ goes i)
+  stays-more : (i : ℕ) → is_kept kept count i ≡ true → (stays (i + 1) ≡ stays i ++ stored_at b i) × (goes (i + 1) ≡ goes i)
   stays-more i e = (rw (gather-more, e), rw (gather-more, e) (append-nil (goes i)))
 
-  goes-more : (i : ℕ) → isKept kept count i ≡ false → (stays (i + 1) ≡ stays i) × (goes (i + 1) ≡ goes i ++ stored_at b i)
+  goes-more : (i : ℕ) → is_kept kept count i ≡ false → (stays (i + 1) ≡ stays i) × (goes (i + 1) ≡ goes i ++ stored_at b i)
   goes-more i e = (rw (gather-more, e) (append-nil (stays i)), rw (gather-more, e))
 
 -- The first i of t rows are parted, and a of them stay.
@@ -75,7 +75,7 @@ pub record Parting (kept : List ℕ) (count t made : ℕ) (b area : Bytes) (i a 
   pub read : i ≤ t
   pub upto : Upto kept count i a
   pub front : length (stays kept count b i) ≡ 64 * a
-  pub area-is : area ≡ placed b 0 (parted kept count i made b)
+  pub area_is : area ≡ placed b 0 (parted kept count i made b)
 
 -- What stands at the front, placed there again.
 front-again : (b : Bytes) (n : ℕ) → n ≤ length b → b ≡ placed b 0 (take n b)
@@ -92,7 +92,7 @@ none-parted {kept} {count} {made} {b} chosen rows room = record {
   read = omega arith;
   upto = upto-none kept count;
   front = refl;
-  area-is = rw (append-nil, sub-zero) (front-again b (64 * made) room);
+  area_is = rw (append-nil, sub-zero) (front-again b (64 * made) room);
 }
 
 -- One row more stays, or goes to the end; and all rows are parted.
@@ -100,7 +100,7 @@ module _ {kept : List ℕ} {count t made i a : ℕ} {b area : Bytes} (p : Partin
   pub same_size : length area ≡ length b
   same_size =
       let n = parted-size kept count b i made (omega arith) p.room in
-      rw p.area-is (length-placed b (parted kept count i made b) 0 (omega arith))
+      rw p.area_is (length-placed b (parted kept count i made b) 0 (omega arith))
 
   both-rows : length (stays kept count b i) + length (goes kept count b i) ≡ 64 * i
   both-rows = both-sized kept count b i (omega arith)
@@ -109,11 +109,11 @@ module _ {kept : List ℕ} {count t made i a : ℕ} {b area : Bytes} (p : Partin
   few-stay = omega (arith, both-rows, p.front)
 
   pub all-parted : t ≤ i → area ≡ placed b 0 (parted kept count t made b)
-  all-parted h = let e : i ≡ t = omega (arith, p.read) in rw e at p.area-is
+  all-parted h = let e : i ≡ t = omega (arith, p.read) in rw e at p.area_is
 
   module _ (h : i < t) where
     row-size : length (stored_at b i) ≡ 64
-    row-size = length-storedAt b i (omega (arith, p.room, p.rows))
+    row-size = length-stored_at b i (omega (arith, p.room, p.rows))
 
     pub one-stays : Next kept count i a → Parting kept count t made b area (i + 1) (a + 1)
     unfolding parted
@@ -126,7 +126,7 @@ module _ {kept : List ℕ} {count t made i a : ℕ} {b area : Bytes} (p : Partin
           read = omega arith;
           upto = next-upto p.chosen p.upto n;
           front = rw (s, length-append) (omega (arith, p.front, row-size));
-          area-is = rw (s, g, append_assoc (stays kept count b i), ← rows_next b i made (omega (arith, p.rows))) p.area-is;
+          area_is = rw (s, g, append_assoc (stays kept count b i), ← rows_next b i made (omega (arith, p.rows))) p.area_is;
         }
 
     pub one-goes : (Next kept count i a → ⊥) →
@@ -139,7 +139,7 @@ module _ {kept : List ℕ} {count t made i a : ℕ} {b area : Bytes} (p : Partin
         let rest = rows_from b (i + 1) made in
         let rear = goes kept count b i in
         let row = stored_at b i in
-        let is : area ≡ placed b 0 (front ++ (row ++ (rest ++ rear))) = p.area-is ∙ rw (rows_next b i made l) (simp append_assoc) in
+        let is : area ≡ placed b 0 (front ++ (row ++ (rest ++ rear))) = p.area_is ∙ rw (rows_next b i made l) (simp append_assoc) in
         let size : length (rest ++ rear) ≡ 64 * (made - (a + 1)) = rw length-append (omega (arith, length-rows b i made l p.room, both-rows)) in
         record {
           chosen = p.chosen;
@@ -148,6 +148,6 @@ module _ {kept : List ℕ} {count t made i a : ℕ} {b area : Bytes} (p : Partin
           read = omega arith;
           upto = other_upto p.chosen p.upto n;
           front = rw s p.front;
-          area-is = row-to-end b front row (rest ++ rear) a made p.front row-size size (omega (arith, both-rows)) p.room area is
+          area_is = row-to-end b front row (rest ++ rear) a made p.front row-size size (omega (arith, both-rows)) p.room area is
               ∙ rw (s, g) (simp append_assoc);
         }

@@ -9,7 +9,7 @@ use lib.Dec.{ltb}
 use lib.ListN.{length, get_or, set}
 use Rattle.graph.proofs.Below.{is_false}
 use Rattle.distances.specs.Area.{cell_at, CellsWritten, Line}
-use Rattle.distances.proofs.Area.{Asked, Narrow, Passed, byLine, byColumn, cell-kept, part-passed, cell-passed}
+use Rattle.distances.proofs.Area.{Asked, Narrow, Passed, by_line, by_column, cell-kept, part-passed, cell-passed}
 use Rattle.purge.specs.Left.{Chosen, Among, squeezed}
 use Rattle.purge.proofs.retire.Kept.{at_least}
 
@@ -36,15 +36,15 @@ module _ {kept : List ℕ} {count t : ℕ} (chosen : Chosen kept count t) (narro
       go false stay = refl
 
   -- One cell more of a line, and one line more.
-  pub cell-squeezed : {a b : ℕ} → CellsWritten (Passed byColumn (Line a t) b) (squeezed kept count before) before area →
+  pub cell-squeezed : {a b : ℕ} → CellsWritten (Passed by_column (Line a t) b) (squeezed kept count before) before area →
       (a < t) × (b < t) × (16384 ≤ length before) → (v : ℕ) → v ≡ squeezed kept count area a b →
-      CellsWritten (Passed byColumn (Line a t) (b + 1)) (squeezed kept count before) before (set area (128 * a + b) v)
+      CellsWritten (Passed by_column (Line a t) (b + 1)) (squeezed kept count before) before (set area (128 * a + b) v)
   cell-squeezed {a} {b} w h v e =
       cell-passed w (omega arith) (omega arith) (e ∙ from-before w (omega arith) a b (λ g k u. omega (arith, at_least chosen b k)))
 
-  pub line-squeezed : {a : ℕ} {after : List ℕ} → CellsWritten (Passed byLine (Among t) a) (squeezed kept count before) before area → a < t →
+  pub line-squeezed : {a : ℕ} {after : List ℕ} → CellsWritten (Passed by_line (Among t) a) (squeezed kept count before) before area → a < t →
       CellsWritten (Line a t) (squeezed kept count area) area after →
-      CellsWritten (Passed byLine (Among t) (a + 1)) (squeezed kept count before) before after
+      CellsWritten (Passed by_line (Among t) (a + 1)) (squeezed kept count before) before after
   line-squeezed w h x =
       part-passed w (omega arith) x
       (λ i j u. from-before w (omega arith) i j (λ g k v. omega (arith, at_least chosen i (omega arith))))

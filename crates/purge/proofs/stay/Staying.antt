@@ -7,27 +7,27 @@ use native.Mathlib.Omega.{arith}
 use lib.ListN.{length, get_or, set}
 use Rattle.rules.specs.declared.Kind.{Kind}
 use Rattle.types.specs.State.{blank}
-use Rattle.purge.specs.Stay.{obsoleteIn, staying, Stays}
+use Rattle.purge.specs.Stay.{obsolete_in, staying, Stays}
 use Rattle.purge.proofs.stay.Places.{places, none_passed, one-goes, one-stays}
 
-abbrev pub stayIn : List ℕ → List Kind → ℕ → ℕ → Bool
-stayIn area kinds t i = not (obsoleteIn area t (get_or kinds i blank) i)
+abbrev pub stay_in : List ℕ → List Kind → ℕ → ℕ → Bool
+stay_in area kinds t i = not (obsolete_in area t (get_or kinds i blank) i)
 
 pub record Passed (area : List ℕ) (kinds : List Kind) (t : ℕ) (kept : List ℕ) (count i : ℕ) : Type 0 where
   pub few : t ≤ 128
   pub read : i ≤ t
   pub count-few : count ≤ i
-  pub stays : Stays (places i (stayIn area kinds t)) (record { kept = kept; count = count })
+  pub stays : Stays (places i (stay_in area kinds t)) (record { kept = kept; count = count })
 
 pub passed_none : {area : List ℕ} {kinds : List Kind} {t : ℕ} {kept : List ℕ} → t ≤ 128 → length kept ≡ 128 → Passed area kinds t kept 0 0
-passed_none {area} {kinds} {t} {kept} few e = record { few = few; read = omega arith; count-few = omega arith; stays = none_passed (stayIn area kinds t) kept e }
+passed_none {area} {kinds} {t} {kept} few e = record { few = few; read = omega arith; count-few = omega arith; stays = none_passed (stay_in area kinds t) kept e }
 
 module _ {area : List ℕ} {kinds : List Kind} {t : ℕ} {kept : List ℕ} {count i : ℕ} (passed : Passed area kinds t kept count i) where
   abbrev stay : ℕ → Bool
-  stay = stayIn area kinds t
+  stay = stay_in area kinds t
 
   -- By what the test said of type i.
-  module _ {r : Bool} (h : i < t) (is : r ≡ obsoleteIn area t (get_or kinds i blank) i) where
+  module _ {r : Bool} (h : i < t) (is : r ≡ obsolete_in area t (get_or kinds i blank) i) where
     pub passed-goes : not r ≡ false → Passed area kinds t kept count (i + 1)
     passed-goes e =
         record { few = passed.few; read = omega arith; count-few = omega arith; stays = one-goes stay passed.stays (ap not (sym is) ∙ e) }

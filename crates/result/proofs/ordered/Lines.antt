@@ -11,12 +11,12 @@ use lib.ListN.{length, get_or, length-append, get_or-append}
 use lib.Seq.{get_or-append-add}
 use borrow.Author.Tests.{ltb-true, lt-ltb, le-ltb}
 use Rattle.graph.specs.Below.{gather, only}
-use Rattle.graph.proofs.Below.{last_or, gather-more, length-kept, count-le}
+use Rattle.graph.proofs.Below.{last_or, gather-more, length-kept, count_le}
 use Rattle.rules.specs.Links.{link_at}
 use Rattle.rules.specs.declared.Link.{Link}
 use Rattle.links.specs.Marks.{marked}
-use Rattle.purge.specs.Network.{linksIn}
-use Rattle.result.specs.Lines.{isLink, link_of, pair_of, line_of, linksBefore}
+use Rattle.purge.specs.Network.{links_in}
+use Rattle.result.specs.Lines.{is_link, link_of, pair_of, line_of, links_before}
 use Rattle.result.specs.Order.{no_link}
 
 -- ── A place in a gather ──
@@ -53,7 +53,7 @@ kept false x k h = absurd (not-suc-le-zero h)
 
 module _ (area : List ℕ) (i : ℕ) where
   -- A pair with a higher type is a link where it is marked, and one with a lower type or with itself is none.
-  pub higher : (j : ℕ) (t : Bool) → i < j → marked area i j ≡ t → isLink area i j ≡ t
+  pub higher : (j : ℕ) (t : Bool) → i < j → marked area i j ≡ t → is_link area i j ≡ t
   higher j t h e = rw (lt-ltb i j h) e
 
   pub lower : (n : ℕ) → n ≤ i + 1 → length (gather n (pair_of area i)) ≡ 0
@@ -61,7 +61,7 @@ module _ (area : List ℕ) (i : ℕ) where
   lower zero h = refl
   lower (suc n) h = rw (length-append, lower n (omega arith), le-ltb i n (omega arith))
 
-  pub pair-more : (j : ℕ) (t : Bool) → isLink area i j ≡ t →
+  pub pair-more : (j : ℕ) (t : Bool) → is_link area i j ≡ t →
       length (gather (j + 1) (pair_of area i)) ≡ length (gather j (pair_of area i)) + length (only t (link_of area i j))
   pair-more j t e = rw (gather-more, length-append, e)
 
@@ -72,63 +72,63 @@ module _ (area : List ℕ) (t : ℕ) where
   line = line_of area t
 
   abbrev links : List Link
-  links = linksIn t area
+  links = links_in t area
 
   pub line-short : (i : ℕ) → length (line i) ≤ t
   unfolding line_of
-  line-short i = omega (arith, length-kept t (isLink area i) (link_of area i), count-le t (isLink area i))
+  line-short i = omega (arith, length-kept t (is_link area i) (link_of area i), count_le t (is_link area i))
 
   pub links-more : (i : ℕ) → length (gather (i + 1) line) ≡ length (gather i line) + length (line i)
   links-more i = rw (gather-more, length-append)
 
   pub links-all : length (gather t line) ≡ length links
-  unfolding linksIn line_of
+  unfolding links_in line_of
   links-all = refl
 
-  pub before_more : (i j : ℕ) (b : Bool) → isLink area i j ≡ b →
-      linksBefore area t i (j + 1) ≡ linksBefore area t i j + length (only b (link_of area i j))
-  unfolding linksBefore
+  pub before_more : (i j : ℕ) (b : Bool) → is_link area i j ≡ b →
+      links_before area t i (j + 1) ≡ links_before area t i j + length (only b (link_of area i j))
+  unfolding links_before
   before_more i j b e = omega (arith, pair-more area i j b e)
 
   -- A line ends where the next one begins.
-  before-end : (i : ℕ) → linksBefore area t i t ≡ length (gather (i + 1) line)
-  unfolding linksBefore line_of
+  before-end : (i : ℕ) → links_before area t i t ≡ length (gather (i + 1) line)
+  unfolding links_before line_of
   before-end i = omega (arith, links-more i)
 
-  pub line-end : (i : ℕ) → linksBefore area t (i + 1) (i + 1 + 1) ≡ linksBefore area t i t
-  unfolding linksBefore
+  pub line-end : (i : ℕ) → links_before area t (i + 1) (i + 1 + 1) ≡ links_before area t i t
+  unfolding links_before
   line-end i = omega (arith, before-end i, lower area (i + 1) (i + 1 + 1) (omega arith))
 
   -- While links are left, there is a next line.
-  pub line-follows : (i : ℕ) → i < t → linksBefore area t i t < length links → i + 1 < t
+  pub line-follows : (i : ℕ) → i < t → links_before area t i t < length links → i + 1 < t
   line-follows i h l = elim (dec_lt (i + 1) t) [
     | yes g ↦ g
     | no g ↦ let e : i + 1 ≡ t = omega arith in absurd (omega (arith, before-end i, ap (λ (n : ℕ). length (gather n line)) e, links-all))
   ]
 
   -- A link's place is the number of links before it, and each place is that of a link.
-  pub link-at : (i j : ℕ) → i < t → j < t → isLink area i j ≡ true → link_at links (linksBefore area t i j) ≡ link_of area i j
-  unfolding linksIn line_of linksBefore
+  pub link-at : (i j : ℕ) → i < t → j < t → is_link area i j ≡ true → link_at links (links_before area t i j) ≡ link_of area i j
+  unfolding links_in line_of links_before
   link-at i j hi hj e =
       let (l, at) = at_place (pair_of area i) t j 0 no_link hj (rw e (omega arith)) in
       (at_place line t i _ no_link hi (rw add-zero at l)).1 ∙ (rw add-zero at at) ∙ rw e
 
-  place_of : (k : ℕ) → k < length links → (i : ℕ) × (j : ℕ) × (i < t) × (j < t) × (isLink area i j ≡ true) × (k ≡ linksBefore area t i j)
-  unfolding linksIn line_of linksBefore
+  place_of : (k : ℕ) → k < length links → (i : ℕ) × (j : ℕ) × (i < t) × (j < t) × (is_link area i j ≡ true) × (k ≡ links_before area t i j)
+  unfolding links_in line_of links_before
   place_of k h =
       let (i, m, hi, l, e) = place line t k h in
       let (j, o, hj, q, g) = place (pair_of area i) t m l in
-      let (test, z) = kept (isLink area i j) (link_of area i j) o q in
+      let (test, z) = kept (is_link area i j) (link_of area i j) o q in
       (i, j, hi, hj, test, omega arith)
 
   -- The place of what comes behind a link, or behind none, is the number of links before the pair that follows.
   pub record Behind (last : Link) (k : ℕ) : Type 0 where
     pub rising : last.low ≤ last.high
     pub inside : last.high < t
-    pub place : k ≡ linksBefore area t last.low (last.high + 1)
+    pub place : k ≡ links_before area t last.low (last.high + 1)
 
   pub behind : (last : Link) (k : ℕ) → k < length links → last ≡ link_at (no_link ∷ links) k → Behind last k
-  unfolding linksIn line_of linksBefore gather
+  unfolding links_in line_of links_before gather
   behind last zero h e = let (i, j, hi, hj, test, p) = place_of 0 h in rw e record { rising = omega arith; inside = omega arith; place = refl }
   behind last (suc k) h e =
       let (i, j, hi, hj, test, p) = place_of k (omega arith) in

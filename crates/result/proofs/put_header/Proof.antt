@@ -2,13 +2,13 @@
 use Prim.Native.Nat.{◌≤◌}
 use native.Mathlib.Omega.{arith}
 use lib.ListN.{length}
-use Rattle.rules.specs.Result.{words, linksOffset}
+use Rattle.rules.specs.Result.{words, links_offset}
 use Rattle.memory.proofs.Follows.{follows-once, follows_on}
 use Rattle.result.proofs.Parts.{links-short}
 use Rattle.result.proofs.put_header.Statement.{statement}
 use Rattle.result.proofs.put_header.Tie as tie
 
-short : (c : tie.Start) → linksOffset c.args.t c.args.s c.args.m ≤ 8976
+short : (c : tie.Start) → links_offset c.args.t c.args.s c.args.m ≤ 8976
 short c = links-short _ c.requires.1 c.requires.0
 
 sub-links : tie.Need-overflow-sub-links

@@ -54,9 +54,9 @@ module _ {M : Type 1} {𝓤 : Ura M} {𝓛 : Logic 𝓤} {K : Type 0} {Γ : List
       rewrite t 0 (λ (l : List Link). ‵ (lying x l)) (filled_none (entry x) ls) refl $ group t 4 $ s)
 
   module _ (room : length ls ≤ length (entry x)) where
-    pub closes-table : {G : Goal 𝓤 H} → Soaks G → (i : ℕ) → i ≡ length ls → Room T.the_row (length (entry x)) →
+    pub closes_table : {G : Goal 𝓤 H} → Soaks G → (i : ℕ) → i ≡ length ls → Room T.the_row (length (entry x)) →
         Step K 𝓛 (held x (placed (entry x) 0 ls) ∷ Γ) G (Open x ls i ∷ Γ) G
-    closes-table f i all fits =
+    closes_table f i all fits =
         let b = entry x in
         let l = placed b 0 ls in
         let same : length l ≡ length b = length-placed b ls 0 (omega arith) in

@@ -36,8 +36,8 @@ tells = LL.tells T.the_type T'.the_laws
 abbrev pub Fits : Link → Type 0
 Fits r = Is T.the_row r (mach r ∷ [])
 
-pub zeros-fit : Fits no_link
-zeros-fit =
+pub zeros_fit : Fits no_link
+zeros_fit =
     let z : 0 < 2 ^ 16 = omega arith in
     LL.owes T.the_type T'.the_laws no_link ((refl, z), ((refl, z), ((refl, z), tt)))
 

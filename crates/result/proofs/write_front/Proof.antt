@@ -2,8 +2,8 @@
 use Prim.Native.Nat.{◌≤◌}
 use native.Mathlib.Omega.{arith}
 use lib.ListN.{length}
-use Rattle.rules.specs.Result.{linksOffset}
-use Rattle.purge.specs.Network.{networkIn}
+use Rattle.rules.specs.Result.{links_offset}
+use Rattle.purge.specs.Network.{network_in}
 use Rattle.result.proofs.Parts.{links-short, few-links, block_size, front_length, parts-written}
 use Rattle.result.proofs.write_front.Statement.{statement}
 use Rattle.result.proofs.write_front.Tie as tie
@@ -12,13 +12,13 @@ use Rattle.result.proofs.write_front.Tie as tie
 abbrev entry : tie.After-sampled → tie.Start
 entry c = c.before.before.before.before.before.before
 
-short : (c : tie.After-sampled) → let a = (entry c).args in linksOffset a.held.state.types c.sampled.result a.m ≤ 8976
+short : (c : tie.After-sampled) → let a = (entry c).args in links_offset a.held.state.types c.sampled.result a.m ≤ 8976
 short c = let ready = (entry c).requires in links-short _ ready.few ready.narrow
 
-room : (c : tie.After-sampled) → let a = (entry c).args in linksOffset a.held.state.types c.sampled.result a.m ≤ length a.out.now
+room : (c : tie.After-sampled) → let a = (entry c).args in links_offset a.held.state.types c.sampled.result a.m ≤ length a.out.now
 room c =
     let a = (entry c).args in
-    let net = networkIn a.m a.states.now a.area.now a.held in
+    let net = network_in a.m a.states.now a.area.now a.held in
     omega (arith, (entry c).requires.room, block_size a.m net, front_length a.m a.states.now a.area.now a.held c.sampled.result c.sampled.ensures.0)
 
 sampled-requires : tie.Need-sampled-requires
@@ -48,19 +48,19 @@ put-header-requires c κs =
     let p = counted.before in
     let ready = (entry p).requires in
     let links = few-links (entry p).args.area.now _ ready.few in
-    (ready.narrow, ready.few, p.sampled.ensures.1, omega (arith, counted.count-links.ensures, links), ready.rounds-fit, omega (arith, room p))
+    (ready.narrow, ready.few, p.sampled.ensures.1, omega (arith, counted.count-links.ensures, links), ready.rounds_fit, omega (arith, room p))
 
 put-records-requires : tie.Need-put-records-requires
 put-records-requires c κs =
     let p = c.before.before.before.before.before.before in
     let ready = (entry p).requires in
-    (ready.few, ready.origins-fit, omega (arith, room p))
+    (ready.few, ready.origins_fit, omega (arith, room p))
 
 put-inferred-rows-requires : tie.Need-put-inferred-rows-requires
 put-inferred-rows-requires c κs =
     let p = c.before.before.before.before.before.before.before.before.before.before in
     let ready = (entry p).requires in
-    (ready.states-fit, ready.narrow, ready.few, p.sampled.ensures.1, omega (arith, room p))
+    (ready.states_fit, ready.narrow, ready.few, p.sampled.ensures.1, omega (arith, room p))
 
 returns : tie.Need-returns
 returns c =

@@ -8,20 +8,20 @@ use native.Mathlib.Omega.{arith}
 use lib.ListN.{length, take, drop, take-append-drop, length-append, length-take, length-drop}
 use lib.Seq.{length-take-le, take-add, drop_at, drop-drop, get_or-take, get_or-drop}
 use Rattle.graph.specs.Below.{first, gather}
-use Rattle.graph.proofs.Below.{In, in-at, first-is, first-le, first-before, first-hits}
+use Rattle.graph.proofs.Below.{In, in_at, first-is, first_le, first-before, first-hits}
 use Rattle.rules.specs.Job.{Bytes, Row}
 use Rattle.rules.specs.Types.{row_at}
-use Rattle.rules.proofs.Block.{Stands, stands-in, stands-rear, stands-part}
+use Rattle.rules.proofs.Block.{Stands, stands_in, stands_rear, stands_part}
 use Rattle.types.specs.State.{stored, stored_at, laid, rows_from}
-use Rattle.types.proofs.State.{length-storedAt, storedAt-is, storedAt-state, OfWidth, laid_both, laid_none, length-laid, laid-at}
+use Rattle.types.proofs.State.{length-stored_at, stored_at-is, stored_at-state, OfWidth, laid_both, laid_none, length-laid, laid-at}
 use Rattle.memory.specs.Placed.{placed}
-use Rattle.memory.proofs.Placed.{placed-none, stands-placed, take-placed, drop-placed, getD-placed-before, placed-over, placed-twice, length-placed}
-use Rattle.round.specs.Sorted.{before, put, sorted, rowPlace, with_row}
+use Rattle.memory.proofs.Placed.{placed-none, stands_placed, take-placed, drop-placed, get_or-placed-before, placed_over, placed-twice, length-placed}
+use Rattle.round.specs.Sorted.{before, put, sorted, row_place, with_row}
 use Rattle.round.proofs.ascending.Sorted.{length-sorted, sorted-wide}
 
 -- The first is within the numbers searched.
 pub within : (n : ℕ) (p : ℕ → Bool) (r : ℕ) → r ≡ first n p → r ≤ n
-within n p r e = rw e (first-le n p)
+within n p r e = rw e (first_le n p)
 
 -- Where a row is put among others, and what that makes of them.
 abbrev spot : Row → List Row → ℕ
@@ -55,8 +55,8 @@ placed-front b xs ys at k e h =
 -- What is placed behind a row leaves it.
 row_kept : (b ys : Bytes) (k j : ℕ) → 64 * j + 64 ≤ k → k + length ys ≤ length b → stored_at (placed b k ys) j ≡ stored_at b j
 row_kept b ys k j h room =
-    storedAt-is (placed b k ys) j (stored_at b j) (length-storedAt b j (omega arith)) (omega (arith, length-placed b ys k room)) (λ c l.
-    getD-placed-before b ys k (omega arith) (64 * j + c) 0 (omega arith) ∙ sym (storedAt-state b j c l))
+    stored_at-is (placed b k ys) j (stored_at b j) (length-stored_at b j (omega arith)) (omega (arith, length-placed b ys k room)) (λ c l.
+    get_or-placed-before b ys k (omega arith) (64 * j + c) 0 (omega arith) ∙ sym (stored_at-state b j c l))
 
 -- Moving up: none of them yet, and one more, the one before.
 module _ (rows : Bytes) (count : ℕ) where
@@ -69,7 +69,7 @@ module _ (rows : Bytes) (count : ℕ) where
       let part = rows_from rows i count in
       let long : length part ≡ 64 * (count - i) = length-take-le (64 * (count - i)) (drop (64 * i) rows) (rw length-drop (omega arith)) in
       let own : row ≡ stored_at rows j = read ∙ rw is (row_kept rows part (64 * i + 64) j (omega arith) (omega arith)) in
-      let wide : length row ≡ 64 = ap length own ∙ length-storedAt rows j (omega arith) in
+      let wide : length row ≡ 64 = ap length own ∙ length-stored_at rows j (omega arith) in
       let next : 64 * j + 64 ≡ 64 * i = omega arith in
       let more : 64 * (count - j) ≡ 64 + 64 * (count - i) = omega arith in
       let parts : rows_from rows j count ≡ row ++ part =
@@ -77,10 +77,10 @@ module _ (rows : Bytes) (count : ℕ) where
       written ∙ rw (is, parts, next) (placed-front rows row part (64 * i) (64 * i + 64) (omega arith) (omega arith))
 
 -- The rows from its place on moved up, and the row put there.
-pub moved-with-row : (rows row moved after : Bytes) (count i : ℕ) → length rows ≡ 8192 → length row ≡ 64 → count < 128 → i ≡ rowPlace rows count row →
+pub moved_with_row : (rows row moved after : Bytes) (count i : ℕ) → length rows ≡ 8192 → length row ≡ 64 → count < 128 → i ≡ row_place rows count row →
     moved ≡ placed rows (64 * i + 64) (rows_from rows i count) → after ≡ placed moved (64 * i) row → after ≡ with_row rows count row
 unfolding with_row
-moved-with-row rows row moved after count i size wide small p m e =
+moved_with_row rows row moved after count i size wide small p m e =
     let le = within _ _ i p in
     e ∙ ap (λ (b : Bytes). placed b (64 * i) row) m
     ∙ placed-front rows row (rows_from rows i count) (64 * i) (64 * i + 64) (omega arith) (omega arith)
@@ -92,11 +92,11 @@ between : (b xs row ys : Bytes) (at n : ℕ) → length xs ≡ at → length ys 
 between b xs row ys at n ex ey h area is =
     let base = placed b 0 xs in
     let twice : (zs : Bytes) → placed base at zs ≡ placed b 0 (xs ++ zs) = λ zs. placed-twice b xs 0 (omega arith) at zs (omega arith) in
-    let later : Stands (placed b 0 (xs ++ ys)) at ys = stands-in (stands-placed b (xs ++ ys) 0 (omega arith)) (stands-rear xs ys ex) (omega arith) in
-    let rest : take n (drop at area) ≡ ys = rw (is, ← ey) (stands-part later) in
+    let later : Stands (placed b 0 (xs ++ ys)) at ys = stands_in (stands_placed b (xs ++ ys) 0 (omega arith)) (stands_rear xs ys ex) (omega arith) in
+    let rest : take n (drop at area) ≡ ys = rw (is, ← ey) (stands_part later) in
     let size = length-placed b xs 0 (omega arith) in
     rw (rest, is, ← twice ys)
-    (placed-over base ys at (omega arith) (row ++ ys) (omega (arith, length-append row ys)) ∙ twice (row ++ ys))
+    (placed_over base ys at (omega arith) (row ++ ys) (omega (arith, length-append row ys)) ∙ twice (row ++ ys))
 
 -- A row of 64 bytes is stored as it is.
 stored-whole : (r : Row) → length r ≡ 64 → stored r ≡ r
@@ -109,14 +109,14 @@ laid_one r e = stored-whole r e
 -- Rows of 64 bytes, with zeros behind them: the list with a row put in.
 module _ (ys : List Row) (wide : (y : Row) → In y ys → length y ≡ 64) where
   of_width : OfWidth 64 ys
-  of_width i h = wide (row_at ys i) (in-at ys i [] h)
+  of_width i h = wide (row_at ys i) (in_at ys i [] h)
 
   front-width : (i : ℕ) → OfWidth 64 (take i ys)
   front-width i k h =
       let n = length-take i ys in rw (get_or-take i ys k [] (omega arith)) (of_width k (omega arith))
 
-  rear-width : (i : ℕ) → OfWidth 64 (drop i ys)
-  rear-width i k h =
+  rear_width : (i : ℕ) → OfWidth 64 (drop i ys)
+  rear_width i k h =
       let n = length-drop i ys in rw (get_or-drop i ys k []) (of_width (i + k) (omega arith))
 
   -- They lie in front of some memory.
@@ -124,12 +124,12 @@ module _ (ys : List Row) (wide : (y : Row) → In y ys → length y ≡ 64) wher
     laid-row : (k : ℕ) → k < length ys → stored_at rows k ≡ row_at ys k
     laid-row k h = rw (is, laid-at 64 ys (omega arith) of_width b k h) (stored-whole (row_at ys k) (of_width k h))
 
-    spot_is : (row : Row) → rowPlace rows (length ys) row ≡ spot row ys
+    spot_is : (row : Row) → row_place rows (length ys) row ≡ spot row ys
     spot_is row =
         let n = length ys in
         let q : ℕ → Bool = λ k. not (before (row_at ys k) row) in
         let same : (k : ℕ) → k < n → not (before (stored_at rows k) row) ≡ q k = λ k h. ap (λ (x : Row). not (before x row)) (laid-row k h) in
-        let le = first-le n q in
+        let le = first_le n q in
         first-is n _ (first n q) le (λ k h. same k (omega arith) ∙ first-before n q k h) (λ h. same (first n q) h ∙ first-hits n q h)
 
     pub row-inserted : (count : ℕ) (row : Row) → count ≡ length ys → 64 * count ≤ length b → length row ≡ 64 →
@@ -137,11 +137,11 @@ module _ (ys : List Row) (wide : (y : Row) → In y ys → length y ≡ 64) wher
     unfolding with_row
     row-inserted count row c h r =
         let i = spot row ys in
-        let le = first-le (length ys) (λ k. not (before (row_at ys k) row)) in
+        let le = first_le (length ys) (λ k. not (before (row_at ys k) row)) in
         let xs = laid (take i ys) in
         let zs = laid (drop i ys) in
         let front : length xs ≡ 64 * i = length-laid 64 (take i ys) (omega arith) (front-width i) ∙ rw (length-take-le i ys le) in
-        let rear : length zs ≡ 64 * (count - i) = length-laid 64 (drop i ys) (omega arith) (rear-width i) ∙ rw (length-drop, c) in
+        let rear : length zs ≡ 64 * (count - i) = length-laid 64 (drop i ys) (omega arith) (rear_width i) ∙ rw (length-drop, c) in
         let parts : laid ys ≡ xs ++ zs = ap laid (sym (take-append-drop i ys)) ∙ laid_both (take i ys) (drop i ys) in
         let more : laid (put row ys) ≡ xs ++ (row ++ zs) =
         rw (put-parts row ys, laid_both (take i ys) (row ∷ drop i ys), laid_both (row ∷ []) (drop i ys), laid_one row r) in
@@ -152,7 +152,7 @@ module _ (ys : List Row) (wide : (y : Row) → In y ys → length y ≡ 64) wher
 -- Turn by turn: no row, and one more of the rows found.
 module _ (found : Bytes) where
   sorted-found : (k : ℕ) → 64 * k ≤ length found → (y : Row) → In y (sorted k (stored_at found)) → length y ≡ 64
-  sorted-found k h = sorted-wide k (stored_at found) 64 (λ i g. length-storedAt found i (omega arith))
+  sorted-found k h = sorted-wide k (stored_at found) 64 (λ i g. length-stored_at found i (omega arith))
 
   pub length-laid-sorted : (k : ℕ) → 64 * k ≤ length found → length (laid (sorted k (stored_at found))) ≡ 64 * k
   length-laid-sorted k h =
@@ -172,4 +172,4 @@ module _ (found : Bytes) where
         let long = length-laid-sorted k (omega arith) in
         let own : row ≡ f k = read ∙ rw is (ap (take 64) (drop-placed found (laid ys) 0 (omega arith) (64 * k) (omega arith))) in
         rw (add-one, ← own) (row-inserted ys (sorted-found k (omega arith)) found rows is k row (sym (length-sorted k f)) (omega arith)
-        (ap length own ∙ length-storedAt found k l))
+        (ap length own ∙ length-stored_at found k l))

@@ -10,8 +10,8 @@ use types.Run.{OneOf, miss}
 use denote.Enum.Declared.{tag_of}
 use Rattle.graph.proofs.Below.{length-table}
 use Rattle.rules.specs.Answers.{number, when◌refuse◌else◌, passed}
-use Rattle.rules.specs.Job.{Bytes, width, epsilon, weights, jobRows, checked}
-use Rattle.rules.specs.Types.{Node, rows_of, sampled, tooMany, row129}
+use Rattle.rules.specs.Job.{Bytes, width, epsilon, weights, job_rows, checked}
+use Rattle.rules.specs.Types.{Node, rows_of, sampled, has_too_many, row129}
 use Rattle.rules.specs.Run.{start}
 use Rattle.rules.specs.Call.{padded}
 use Rattle.rules.specs.declared.Answer.{Answer}
@@ -22,19 +22,19 @@ use Rattle.rules.proofs.Types.{few-sampled}
 use Rattle.rules.proofs.Sound.{rows-sampled}
 use Rattle.memory.specs.Placed.{placed}
 use Rattle.memory.proofs.Placed.{placed-padded, length-placed}
-use Rattle.types.specs.State.{laid, kindsOf, nodesIn}
+use Rattle.types.specs.State.{laid, kinds_of, nodes_in}
 use Rattle.types.proofs.State.{OfWidth, length-laid, length-stored, stored-state}
 use Rattle.types.specs.Collapse.{entered, Collapsed}
 use Rattle.types.specs.declared.sample.Sample.{Sample}
 use Rattle.types.proofs.sample.Collapsed.{entered_all}
-use Rattle.distances.specs.Area.{Weighed, CellsWritten, New, storedApart}
-use Rattle.distances.proofs.Measured.{behind-zero}
-use Rattle.purge.specs.State.{epsilonOf}
+use Rattle.distances.specs.Area.{Weighed, CellsWritten, New, stored_apart}
+use Rattle.distances.proofs.Measured.{behind_zero}
+use Rattle.purge.specs.State.{epsilon_of}
 use Rattle.purge.specs.declared.state.Phase.TheVariants.{One}
 use Rattle.purge.specs.Holds.{Holds}
 use Rattle.purge.proofs.First.{holds-first}
 use Rattle.purge.proofs.Once.{current-few}
-use Rattle.run.specs.Begun.{refusedWith, Begun}
+use Rattle.run.specs.Begun.{refused_with, Begun}
 use Rattle.run.specs.declared.start.Ended.{Ended}
 
 -- What the run of a sample begins with.
@@ -58,71 +58,71 @@ module _ (job : Bytes) (ok : number (checked job) ≡ 0) where
         at_most = λ c h. elim (dec_lt c (width job)) [
           | yes l ↦ rw (stored-state (weights job) c (omega arith)) (weight-within job job-passed c l).at_most
           | no f ↦ let at : c ≡ length (weights job) + (c - width job) = omega arith in
-              rw at (omega (arith, behind-zero (weights job) (64 - length (weights job)) (c - width job) (omega arith)))
+              rw at (omega (arith, behind_zero (weights job) (64 - length (weights job)) (c - width job) (omega arith)))
         ];
       }
 
   -- The types are not too many, and were collapsed into zeros.
-  module _ (few : tooMany (jobRows job) ≡ false) {lent : ℕ} (room : 8192 ≤ lent) {states : Bytes} {sample : Sample}
+  module _ (few : has_too_many (job_rows job) ≡ false) {lent : ℕ} (room : 8192 ≤ lent) {states : Bytes} {sample : Sample}
       (c : Collapsed job (replicate lent 0) states sample) where
     abbrev ts : List Node
-    ts = sampled (jobRows job)
+    ts = sampled (job_rows job)
 
-    few-types : length ts ≤ 128
-    few-types = few-sampled (jobRows job) few
+    few_types : length ts ≤ 128
+    few_types = few-sampled (job_rows job) few
 
     wide : OfWidth (width job) (rows_of ts)
-    wide = rows-sampled (λ r. length r ≡ width job) (jobRows job) (row-widths job)
+    wide = rows-sampled (λ r. length r ≡ width job) (job_rows job) (row-widths job)
 
     narrow : width job ≤ 64
     narrow = job-passed.width-within.at_most
 
     types_are : sample.types ≡ length ts
-    unfolding nodesIn
-    types_are = sym (length-table sample.types _) ∙ ap length c.read_back ∙ ap (λ rs. length (sampled rs)) (entered_all (jobRows job) few)
+    unfolding nodes_in
+    types_are = sym (length-table sample.types _) ∙ ap length c.read_back ∙ ap (λ rs. length (sampled rs)) (entered_all (job_rows job) few)
 
     lie : states ≡ padded lent (laid (rows_of ts))
-    lie = c.states-left ∙ ap (λ rs. placed (replicate lent 0) 0 (laid (rows_of (sampled rs)))) (entered_all (jobRows job) few) ∙ placed-padded lent _
+    lie = c.states_left ∙ ap (λ rs. placed (replicate lent 0) 0 (laid (rows_of (sampled rs)))) (entered_all (job_rows job) few) ∙ placed-padded lent _
 
-    kinds-are : sample.kinds ≡ kindsOf ts
-    kinds-are = c.kinds-left ∙ ap (λ rs. kindsOf (sampled rs)) (entered_all (jobRows job) few)
+    kinds_are : sample.kinds ≡ kinds_of ts
+    kinds_are = c.kinds_left ∙ ap (λ rs. kinds_of (sampled rs)) (entered_all (job_rows job) few)
 
-    pub sample-few : sample.types ≤ 128
-    sample-few = omega (arith, types_are, few-types)
+    pub sample_few : sample.types ≤ 128
+    sample_few = omega (arith, types_are, few_types)
 
     pub states-lent : length states ≡ lent
-    states-lent = ap length c.states-left ∙ length-placed (replicate lent 0) _ 0 fits ∙ length-replicate lent 0
+    states-lent = ap length c.states_left ∙ length-placed (replicate lent 0) _ 0 fits ∙ length-replicate lent 0
       where
-        fits : 0 + length (laid (rows_of (sampled (entered (jobRows job))))) ≤ length {A = ℕ} (replicate lent 0)
-        fits = rw (entered_all (jobRows job) few, length-replicate {A = ℕ} lent 0) (omega (arith, few-types, length-laid (width job) (rows_of ts) narrow wide, length-map ts (λ (t : Node). t.row)))
+        fits : 0 + length (laid (rows_of (sampled (entered (job_rows job))))) ≤ length {A = ℕ} (replicate lent 0)
+        fits = rw (entered_all (job_rows job) few, length-replicate {A = ℕ} lent 0) (omega (arith, few_types, length-laid (width job) (rows_of ts) narrow wide, length-map ts (λ (t : Node). t.row)))
 
     -- Their distances are measured into zeros, by the job's weights: the run begins.
     module _ {ws area₀ area : List ℕ} (cells : ℕ) (weigh : ws ≡ padded 64 (weights job)) (zeros : area₀ ≡ replicate cells 0)
-        (filled : CellsWritten (New 0 sample.types) (storedApart ws states) area₀ area) where
-      measured : CellsWritten (New 0 sample.types) (storedApart (padded 64 (weights job)) states) (replicate cells 0) area
+        (filled : CellsWritten (New 0 sample.types) (stored_apart ws states) area₀ area) where
+      measured : CellsWritten (New 0 sample.types) (stored_apart (padded 64 (weights job)) states) (replicate cells 0) area
       measured = rw (weigh, zeros) at filled
 
-      held_first : Holds (width job) (weights job) (start (jobRows job)) states area (begun sample (epsilon job)).held
-      held_first = rw (types_are, kinds-are) (holds-first (width job) (weights job) ts few-types narrow wide (length-weights job) states
+      held_first : Holds (width job) (weights job) (start (job_rows job)) states area (begun sample (epsilon job)).held
+      held_first = rw (types_are, kinds_are) (holds-first (width job) (weights job) ts few_types narrow wide (length-weights job) states
           (rw states-lent lie) cells area (One (epsilon job)) (rw types_are at measured))
 
       pub begun_first : Begun job lent cells states area (begun sample (epsilon job))
       begun_first = record {
-        states-size = states-lent;
-        area-size = measured.size ∙ length-replicate cells 0;
+        states_size = states-lent;
+        area_size = measured.size ∙ length-replicate cells 0;
         answered = rw few refl;
         refuses = λ many. absurd (false≢true (sym few ∙ many));
-        begins = λ _. record { phase-is = refl; few = sample-few; holds = held_first; measured = measured };
+        begins = λ _. record { phase_is = refl; few = sample_few; holds = held_first; measured = measured };
       }
 
 -- There are too many types, and memory is zero.
-pub begun-none : (job : Bytes) {lent cells : ℕ} {states : Bytes} {area : List ℕ} → tooMany (jobRows job) ≡ true → states ≡ replicate lent 0 →
-    area ≡ replicate cells 0 → Begun job lent cells states area (refusedWith (Types (row129 (jobRows job))))
+pub begun-none : (job : Bytes) {lent cells : ℕ} {states : Bytes} {area : List ℕ} → has_too_many (job_rows job) ≡ true → states ≡ replicate lent 0 →
+    area ≡ replicate cells 0 → Begun job lent cells states area (refused_with (Types (row129 (job_rows job))))
 begun-none job {lent} {cells} many zeros zeros' = record {
-  states-size = ap length zeros ∙ length-replicate lent 0;
-  area-size = ap length zeros' ∙ length-replicate cells 0;
+  states_size = ap length zeros ∙ length-replicate lent 0;
+  area_size = ap length zeros' ∙ length-replicate cells 0;
   answered = rw many refl;
-  refuses = λ _. (refl, record { states-are = zeros; area-is = zeros' });
+  refuses = λ _. (refl, record { states_are = zeros; area_is = zeros' });
   begins = λ few. absurd (false≢true (sym few ∙ many));
 }
 
@@ -131,26 +131,26 @@ begun-none job {lent} {cells} many zeros zeros' = record {
 abbrev pub others : List ℕ
 others = 0 ∷ 1 ∷ 2 ∷ 3 ∷ 4 ∷ 5 ∷ 6 ∷ 7 ∷ 9 ∷ 10 ∷ []
 
-module _ (job : Bytes) {a : Answer} (answered : a ≡ (when tooMany (jobRows job) refuse Types (row129 (jobRows job)) else passed)) where
-  pub many-told : {place : ℕ} → a ≡ Types place → tooMany (jobRows job) ≡ true
-  many-told told = go (tooMany (jobRows job)) (sym answered ∙ told)
+module _ (job : Bytes) {a : Answer} (answered : a ≡ (when has_too_many (job_rows job) refuse Types (row129 (job_rows job)) else passed)) where
+  pub many-told : {place : ℕ} → a ≡ Types place → has_too_many (job_rows job) ≡ true
+  many-told told = go (has_too_many (job_rows job)) (sym answered ∙ told)
     where
-      go : (t : Bool) {place : ℕ} → (when t refuse Types (row129 (jobRows job)) else passed) ≡ Types place → t ≡ true
+      go : (t : Bool) {place : ℕ} → (when t refuse Types (row129 (job_rows job)) else passed) ≡ Types place → t ≡ true
       go true e = refl
       go false e = absurd (omega (arith, ap number e))
 
-  pub few-told : OneOf others (tag_of the_type a) → tooMany (jobRows job) ≡ false
-  few-told other = go (tooMany (jobRows job)) (rw answered at other)
+  pub few-told : OneOf others (tag_of the_type a) → has_too_many (job_rows job) ≡ false
+  few-told other = go (has_too_many (job_rows job)) (rw answered at other)
     where
-      go : (t : Bool) → OneOf others (tag_of the_type (when t refuse Types (row129 (jobRows job)) else passed)) → t ≡ false
+      go : (t : Bool) → OneOf others (tag_of the_type (when t refuse Types (row129 (job_rows job)) else passed)) → t ≡ false
       go true one = absurd (miss others 8 tt one)
       go false one = refl
 
 -- However a run begins, its types can be purged: there are few of them, and epsilon fits 16 bits.
 pub begun-small : {job states : Bytes} {lent cells : ℕ} {area : List ℕ} {r : Ended} → Begun job lent cells states area r → epsilon job ≤ 65535 →
-    (r.held.state.types ≤ r.held.state.made) × (r.held.state.made ≤ 128) × (epsilonOf r.held.state.phase ≤ 65535)
-begun-small {job} {r} b fits = go (tooMany (jobRows job)) refl
+    (r.held.state.types ≤ r.held.state.made) × (r.held.state.made ≤ 128) × (epsilon_of r.held.state.phase ≤ 65535)
+begun-small {job} {r} b fits = go (has_too_many (job_rows job)) refl
   where
-    go : (t : Bool) → tooMany (jobRows job) ≡ t → (r.held.state.types ≤ r.held.state.made) × (r.held.state.made ≤ 128) × (epsilonOf r.held.state.phase ≤ 65535)
+    go : (t : Bool) → has_too_many (job_rows job) ≡ t → (r.held.state.types ≤ r.held.state.made) × (r.held.state.made ≤ 128) × (epsilon_of r.held.state.phase ≤ 65535)
     go true many = rw (b.refuses many).0 (omega arith, omega arith, omega arith)
-    go false few = let f = b.begins few in (current-few f.holds, f.few, rw f.phase-is fits)
+    go false few = let f = b.begins few in (current-few f.holds, f.few, rw f.phase_is fits)

@@ -4,13 +4,13 @@ use mathlib.Core.Bool.{Bool, true, false}
 use mathlib.Core.List.{List}
 use Prim.Native.Nat.{ℕ, ◌≤◌}
 use native.Mathlib.Omega.{arith}
-use Rattle.rules.specs.Job.{Bytes, jobRows}
-use Rattle.rules.specs.Types.{tooMany}
+use Rattle.rules.specs.Job.{Bytes, job_rows}
+use Rattle.rules.specs.Types.{has_too_many}
 use Rattle.rules.specs.Round.{made}
 use Rattle.rules.specs.Run.{start}
 use Rattle.rules.specs.Call.{padded}
 use Rattle.types.specs.State.{laid}
-use Rattle.distances.proofs.Area.{new-narrow, new-dec, written_once}
+use Rattle.distances.proofs.Area.{new-narrow, new_dec, written_once}
 use Rattle.purge.proofs.Once.{current-few}
 use Rattle.run.specs.Begun.{Begun, First}
 use Rattle.run.specs.declared.start.Ended.{Ended}
@@ -18,26 +18,26 @@ use Rattle.run.specs.declared.start.Ended.{Ended}
 module _ {job states states' : Bytes} {lent cells : ℕ} {area area' : List ℕ} {r r' : Ended}
     (a : Begun job lent cells states area r) (b : Begun job lent cells states' area' r') where
   -- After TYPES all is zero, and nothing is held.
-  refused-once : tooMany (jobRows job) ≡ true → (states ≡ states') × (area ≡ area') × (r ≡ r')
+  refused-once : has_too_many (job_rows job) ≡ true → (states ≡ states') × (area ≡ area') × (r ≡ r')
   refused-once many =
       let (p, s) = a.refuses many in
       let (q, t) = b.refuses many in
-      (s.states-are ∙ sym t.states-are, s.area-is ∙ sym t.area-is, p ∙ sym q)
+      (s.states_are ∙ sym t.states_are, s.area_is ∙ sym t.area_is, p ∙ sym q)
 
   -- Else memory holds one run, and beside its distances the area is zero.
   first-once : First job cells states area r → First job cells states' area' r' → r.answer ≡ r'.answer → (states ≡ states') × (area ≡ area') × (r ≡ r')
   first-once f g answer =
       let h = f.holds in
       let k = g.holds in
-      let rows = h.states-are ∙ ap (λ n. padded n (laid (made (start (jobRows job))))) (a.states-size ∙ sym b.states-size) ∙ sym k.states-are in
+      let rows = h.states_are ∙ ap (λ n. padded n (laid (made (start (job_rows job))))) (a.states_size ∙ sym b.states_size) ∙ sym k.states_are in
       let types = h.types_are ∙ sym k.types_are in
-      let all = h.made-are ∙ sym k.made-are in
-      let rounds = h.rounds-are ∙ sym k.rounds-are in
-      let phase = f.phase-is ∙ sym g.phase-is in
-      let kinds = h.kinds-are ∙ sym k.kinds-are in
+      let all = h.made_are ∙ sym k.made_are in
+      let rounds = h.rounds_are ∙ sym k.rounds_are in
+      let phase = f.phase_is ∙ sym g.phase_is in
+      let kinds = h.kinds_are ∙ sym k.kinds_are in
       let few : r.held.state.types ≤ 128 = omega (arith, f.few, current-few h) in (
         rows,
-        written_once (new-narrow 0 _ few) (new-dec 0 _) f.measured (rw (← types, ← rows) at g.measured),
+        written_once (new-narrow 0 _ few) (new_dec 0 _) f.measured (rw (← types, ← rows) at g.measured),
         λ i. record {
           answer = answer i;
           held = record { state = record { types = types i; made = all i; rounds = rounds i; phase = phase i }; kinds = kinds i };
@@ -45,8 +45,8 @@ module _ {job states states' : Bytes} {lent cells : ℕ} {area area' : List ℕ}
       )
 
   pub begun-once : (states ≡ states') × (area ≡ area') × (r ≡ r')
-  begun-once = go (tooMany (jobRows job)) refl
+  begun-once = go (has_too_many (job_rows job)) refl
     where
-      go : (t : Bool) → tooMany (jobRows job) ≡ t → (states ≡ states') × (area ≡ area') × (r ≡ r')
+      go : (t : Bool) → has_too_many (job_rows job) ≡ t → (states ≡ states') × (area ≡ area') × (r ≡ r')
       go true many = refused-once many
       go false few = first-once (a.begins few) (b.begins few) (a.answered ∙ sym b.answered)

@@ -7,12 +7,12 @@ use Rattle.run.proofs.turn.Tie as tie
 purge-requires : tie.Need-purge-requires
 purge-requires c κs =
     let s = c.before.before.before.before.before.requires in
-    (s.within, s.few, s.epsilon-fits, s.states-fit, s.cells_fit)
+    (s.within, s.few, s.epsilon_fits, s.states_fit, s.cells_fit)
 
 round-requires : tie.Need-round-requires
 round-requires c κs =
     let s = safe-purged c.before.before.before.before.before.before.before.before.before.before.before.before.requires c.before.before.before.before.before.before.purge.ensures in
-    (s.weighed, s.within, s.few, s.rounds-few, s.kinds-size, s.epsilon-fits, s.states-fit, s.cells_fit)
+    (s.weighed, s.within, s.few, s.rounds_few, s.kinds_size, s.epsilon_fits, s.states_fit, s.cells_fit)
 
 returns : tie.Need-returns
 returns c = turned c.before.before.before.before.before.before.before.before.before.before.before.before.before.before.before.before.before.requires c.before.before.before.before.before.before.before.before.before.before.before.purge.ensures c.before.before.before.before.round.ensures

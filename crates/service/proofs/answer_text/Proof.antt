@@ -9,7 +9,7 @@ use Rattle.service.proofs.answer_text.Tie as tie
 returns : tie.Need-returns
 returns c =
     let printed = c.before.before.before in
-    least-text printed.before.before.before.before.answer-job.ensures (length-replicate {A = ℕ} 57680 0) printed.text.ensures c.tell-text.ensures.used-is
+    least-text printed.before.before.before.before.answer-job.ensures (length-replicate {A = ℕ} 57680 0) printed.text.ensures c.tell-text.ensures.used_is
 
 pub answer-text-spec : {M : Type 1} → statement M
 answer-text-spec =

@@ -44,13 +44,13 @@ use Rattle.network.proofs.Areas.{Areas}
 use Rattle.service.specs.declared.Owned.{Owned}
 use Rattle.service.specs.contracts.Owned as Own
 use Rattle.service.proofs.Owned.TheLaws as Own'
-use Rattle.service.proofs.Calling.{shared, Call, Left, calls-call}
+use Rattle.service.proofs.Calling.{shared, Call, Left, calls_call}
 use Rattle.byhand.proofs.Lend.{Passed, entry, value, well_typed, held, gave}
-use Rattle.byhand.proofs.Locals.{Cells, enters, frees-locals}
+use Rattle.byhand.proofs.Locals.{Cells, enters, frees_locals}
 use Rattle.byhand.proofs.Loop.{Holds, local, sets}
-use Rattle.byhand.proofs.Meets.{Params, dropped-param, shared-param, given-param, Walk, Start, ends_with, meets}
-use Rattle.byhand.proofs.Whole.{on-whole, lends-whole, whole_back, big-lit}
-use Rattle.byhand.proofs.Body.{Blocks, env, reslices, unslices, whole-arg}
+use Rattle.byhand.proofs.Meets.{Params, dropped_param, shared_param, given_param, Walk, Start, ends_with, meets}
+use Rattle.byhand.proofs.Whole.{on-whole, lends-whole, whole_back, big_lit}
+use Rattle.byhand.proofs.Body.{Blocks, env, reslices, unslices, whole_arg}
 use Rattle.service.specs.contracts.call_with as with'
 use Rattle.service.specs.contracts.call_with.Key as key
 use Rattle.service.proofs.call_with.Statement as stated
@@ -78,8 +78,8 @@ abbrev params : Params with'.ended
 params =
     let vals = LS.vals L.the_type L'.the_laws in
     let tells = Array-Tells L.the_row vals (LS.tells L.the_type L'.the_laws) 8128 in
-    let table = dropped-param {n = 4} (array_of (plain (λ _. L.the_row)) 8128) (λ κs x f. refl) (λ κs. array_vals vals) (λ κs. tells) in
-    (shared-param 0 tt u8, (given-param 1 tt u8, (given-param 2 tt u8, (given-param 3 tt u16, (table, tt)))))
+    let table = dropped_param {n = 4} (array_of (plain (λ _. L.the_row)) 8128) (λ κs x f. refl) (λ κs. array_vals vals) (λ κs. tells) in
+    (shared_param 0 tt u8, (given_param 1 tt u8, (given_param 2 tt u8, (given_param 3 tt u16, (table, tt)))))
 
 module _ {M : Type 1} {𝓤 : Ura M} (𝓛 : Logic 𝓤) (mem : Memory → SProp 𝓤) (run : Routine → Fun 𝓤) where
   open 𝓛 use {H}
@@ -116,10 +116,10 @@ module _ {M : Type 1} {𝓤 : Ura M} (𝓛 : Logic 𝓤) (mem : Memory → SProp
     handed z = record { answer = z.answer; table = z.links' }
 
     -- The end, with what is then left.
-    abbrev At-exit : Leaves → List (Item 𝓤)
-    At-exit z = ‵ (flft job.lft job.share) ∷ gave result z.result' ∷ gave states z.states' ∷ gave distances z.distances' ∷ []
+    abbrev AtExit : Leaves → List (Item 𝓤)
+    AtExit z = ‵ (flft job.lft job.share) ∷ gave result z.result' ∷ gave states z.states' ∷ gave distances z.distances' ∷ []
 
-    exits : (w v' : Val) (z : Leaves) → Is Own.the_row (handed z) (both w v' ∷ []) → Sq 𝓛 (At-exit z) (prop (Post (both w v')))
+    exits : (w v' : Val) (z : Leaves) → Is Own.the_row (handed z) (both w v' ∷ []) → Sq 𝓛 (AtExit z) (prop (Post (both w v')))
     exits w v' z is =
         move ! (1 ∷ []) $ split ! $ move ! (3 ∷ []) $ split ! $ move ! (5 ∷ []) $ split ! $ nothing ! $ nothing ! $
         -- [true; true; distances; its token; states; its token; result; its token; the job's token]
@@ -143,7 +143,7 @@ module _ {M : Type 1} {𝓤 : Ura M} (𝓛 : Logic 𝓤) (mem : Memory → SProp
       Before = shared job ∷ held result (entry result) ∷ held states (entry states) ∷ held distances (entry distances) ∷ Cells 𝓛 En (values [])
 
       abbrev After : Leaves → (w v' : Val) → List (Item 𝓤)
-      After z w v' = At-exit z ++ Cells 𝓛 En (values (v' ∷ w ∷ []))
+      After z w v' = AtExit z ++ Cells 𝓛 En (values (v' ∷ w ∷ []))
 
       abbrev Runs : List (Item 𝓤) → Body → Type 1
       Runs Γ t = Sq 𝓛 Γ (runs 𝓣.C 𝓣.Λ En t (at_ret En Post))
@@ -159,7 +159,7 @@ module _ {M : Type 1} {𝓤 : Ura M} (𝓛 : Logic 𝓤) (mem : Memory → SProp
           sets ! (of_opd ! (local ! 9 refl)) (init ! 10 refl (typed 𝓛 table v is-table).0) $
           reslices ! 6 12 refl result.fits $ reslices ! 7 14 refl states.fits $ reslices ! 8 16 refl distances.fits $
           sets ! (addr ! (from ! (stop !))) (init ! 18 refl (tt, tt)) $
-          sets ! (agg ! (whole-arg ! 18 refl (and_then ! (big-lit ! (record { fits = lit< tt })) (no_more !))))
+          sets ! (agg ! (whole_arg ! 18 refl (and_then ! (big_lit ! (record { fits = lit< tt })) (no_more !))))
           (init ! 19 refl (tt, (tt, (record { fits = lit< tt }, tt)))) $
           -- The slice's count is the table's length. What the table owns is had for nothing.
           rewrite ! 19 (λ (n : ℕ). Holds 𝓤 H En 15 (slice_val (b, 0) n)) (sym is-table.1.0.1) refl $
@@ -167,8 +167,8 @@ module _ {M : Type 1} {𝓤 : Ura M} (𝓛 : Logic 𝓤) (mem : Memory → SProp
           move ! (11 ∷ 0 ∷ []) $ lends-whole ! tt L.the_row tt 8128 b (lit< tt, lit< tt) table fits v (λ ν δ.
           -- [the table; it lent; job; result; states; distances; the locals but 6]
           move ! (2 ∷ 3 ∷ 4 ∷ 5 ∷ 0 ∷ []) $
-          calls-call (passed (on-whole L.the_row 8128 b table fits ν δ)) 𝓛 mem run (fm_of 𝓤 H 𝓛.laws 𝓣) known !
-          (whole-arg ! 3 refl (whole-arg ! 10 refl (whole-arg ! 12 refl (whole-arg ! 14 refl (whole-arg ! 16 refl (no_more !)))))) (λ w z is.
+          calls_call (passed (on-whole L.the_row 8128 b table fits ν δ)) 𝓛 mem run (fm_of 𝓤 H 𝓛.laws 𝓣) known !
+          (whole_arg ! 3 refl (whole_arg ! 10 refl (whole_arg ! 12 refl (whole_arg ! 14 refl (whole_arg ! 16 refl (no_more !)))))) (λ w z is.
           -- [the job's token; result; states; distances; the table; it lent; the locals but 6]
           land ! (from ! (stop !)) (init ! 12 refl ((Le.lawful Ans.the_type Ans'.the_laws 𝓛 tt).typed z.answer _ is).0) $
           unslices ! 13 refl $ unslices ! 15 refl $ unslices ! 17 refl $ unslices ! 19 refl $ move ! (4 ∷ 5 ∷ []) $
@@ -181,9 +181,9 @@ module _ {M : Type 1} {𝓤 : Ura M} (𝓛 : Logic 𝓤) (mem : Memory → SProp
       hands w v' z is is' =
           let out : Is Own.the_row (handed z) (both w v' ∷ []) = conversion w v' (handed z) is is' in
           sets ! (of_opd ! (local ! 10 refl)) (init ! 20 refl (typed 𝓛 z.links' v' is').0) $
-          sets ! (agg ! (whole-arg ! 11 refl (whole-arg ! 20 refl (no_more !))))
+          sets ! (agg ! (whole_arg ! 11 refl (whole_arg ! 20 refl (no_more !))))
           (init ! 4 refl ((LS.lawful Own.the_type Own'.the_laws 𝓛).typed (handed z) _ out).0) $ returns ! (look ! 4 refl) $
-          forget ! 4 refl $ forget ! 20 refl $ frees-locals ! 4 En (values (v' ∷ w ∷ [])) refl $ exits w v' z out
+          forget ! 4 refl $ forget ! 20 refl $ frees_locals ! 4 En (values (v' ∷ w ∷ [])) refl $ exits w v' z out
 
     walk : Sq 𝓛 (Start 𝓛 with'.ended y.0) (prop (WpFn 𝓤 H 𝓣.C 𝓣.Λ code.function (WithC.args y) Post))
     walk =
@@ -193,9 +193,9 @@ module _ {M : Type 1} {𝓤 : Ura M} (𝓛 : Logic 𝓤) (mem : Memory → SProp
         move ! (8 ∷ []) $ drop ! $ move ! (7 ∷ 3 ∷ []) $ join ! $ move ! (6 ∷ 3 ∷ []) $ join ! $ move ! (5 ∷ 3 ∷ []) $ join ! $
         move ! (4 ∷ 3 ∷ []) $ join ! $ calls bs (hands bs))
 
-pub call-with-spec : {M : Type 1} → stated.statement M
+pub call_with_spec : {M : Type 1} → stated.statement M
 unfolding code.routine tables_of
-call-with-spec 𝓤 𝓛 𝓜 𝓡 =
+call_with_spec 𝓤 𝓛 𝓜 𝓡 =
     let known = cited 𝓤 𝓛.H _ 𝓜 𝓡 code.env call-def.name call-def.routine code.calls-network::call (call-thm.met 𝓤 𝓛 𝓜 𝓡) in
     meets 𝓛 𝓜 𝓡 with'.ended params (with'.clauses 𝓛 𝓜.mem 𝓡.run) code.env key.name code.function (code.unfolded 𝓤 𝓛.H 𝓜 𝓡)
     (λ κs qs bounds a g are. drop ! $ walk 𝓛 𝓜.mem 𝓡.run (tables_of 𝓤 𝓛.H 𝓜 (tables 𝓤 𝓛.H 𝓜 𝓡 code.env)) known

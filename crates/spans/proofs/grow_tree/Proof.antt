@@ -4,7 +4,7 @@ use Prim.Native.Nat.{◌-◌, ◌≤◌, ◌<◌}
 use native.Mathlib.Omega.{arith}
 use lib.ListN.{length-set}
 use borrow.Author.Rules.{rules}
-use Rattle.spans.proofs.TreeGrown.{Growing, growing-none, growing-more, growing-all}
+use Rattle.spans.proofs.TreeGrown.{Growing, growing_none, growing-more, growing_all}
 use Rattle.spans.proofs.grow_tree.Statement.{statement}
 use Rattle.spans.proofs.grow_tree.Tie as tie
 
@@ -29,7 +29,7 @@ loop-holds : tie.Need-loop-init invariant-loop decreases-loop
 loop-holds c =
     let (long, free, past) = c.none_inside.ensures in
     let s = c.before.before.before.before.before.before in
-    growing-none s.args.area.now s.args.spans.now (omega arith) (omega arith) (omega arith) long free past
+    growing_none s.args.area.now s.args.spans.now (omega arith) (omega arith) (omega arith) long free past
 
 join-line-requires : tie.Need-join-line-requires invariant-loop decreases-loop
 join-line-requires c κs =
@@ -55,13 +55,13 @@ approach-requires : tie.Need-approach-requires invariant-loop decreases-loop
 approach-requires c κs =
     let t = c.before.before.before.before.before.before.before.before in
     let g = t.before.loop.invariant in
-    (omega (arith, given t), omega (arith, given t, typed t), g.near-size, rw length-set g.inside-size, omega arith)
+    (omega (arith, given t), omega (arith, given t, typed t), g.near_size, rw length-set g.inside-size, omega arith)
 
 find-requires : tie.Need-find-requires invariant-loop decreases-loop
 find-requires c κs =
     let t = c.before.before.before.before.before.before.before.before.before.before.before.before in
     let g = t.before.loop.invariant in
-    (omega (arith, given t), c.before.before.before.approach.ensures.0.size ∙ g.near-size, rw length-set g.inside-size)
+    (omega (arith, given t), c.before.before.before.approach.ensures.0.size ∙ g.near_size, rw length-set g.inside-size)
 
 loop-again : tie.Need-loop-preserved invariant-loop decreases-loop
 loop-again c =
@@ -75,7 +75,7 @@ loop-again c =
     j.join-line.ensures.0 j.join-line.ensures.1 a.approach.ensures.0 a.approach.ensures.1 c.find.ensures
 
 returns : tie.Need-returns invariant-loop decreases-loop
-returns c = growing-all c.before.loop.invariant (omega arith)
+returns c = growing_all c.before.loop.invariant (omega arith)
 
 pub grow-tree-spec : {M : Type 1} → statement M
 grow-tree-spec =

@@ -2,14 +2,14 @@
 use Prim.Native.Nat.{◌-◌, ◌≤◌}
 use native.Mathlib.Omega.{arith}
 use Rattle.distances.specs.Area.{CellsWritten}
-use Rattle.distances.proofs.Area.{Passed, byColumn, cell-kept, cell-passed, all-passed}
+use Rattle.distances.proofs.Area.{Passed, by_column, cell-kept, cell-passed, all-passed}
 use Rattle.spans.specs.Tree.{opposite}
 use Rattle.spans.specs.Growth.{LinePart}
 use Rattle.spans.proofs.mirror_part.Statement.{statement}
 use Rattle.spans.proofs.mirror_part.Tie as tie
 
 abbrev invariant-loop : tie.invariant-loop
-invariant-loop area₀ j from to i₀ area i = (from ≤ i) × CellsWritten (Passed byColumn (LinePart j from to) i) (opposite area₀) area₀ area
+invariant-loop area₀ j from to i₀ area i = (from ≤ i) × CellsWritten (Passed by_column (LinePart j from to) i) (opposite area₀) area₀ area
 
 abbrev decreases-loop : tie.decreases-loop
 decreases-loop area₀ j from to i₀ area i = to - i

@@ -4,7 +4,7 @@ use Prim.Native.Nat.{ℕ, ◌+◌, ◌-◌, ◌≤◌, ◌<◌}
 use native.Mathlib.Omega.{arith}
 use lib.ListN.{length, get_or, length-set}
 use borrow.Author.Rules.{rules}
-use Rattle.spans.proofs.Lines.{Settling, settling-none, settling-more, settling-all}
+use Rattle.spans.proofs.Lines.{Settling, settling_none, settling_more, settling_all}
 use Rattle.spans.proofs.settle.Statement.{statement}
 use Rattle.spans.proofs.settle.Tie as tie
 
@@ -23,7 +23,7 @@ typed : (t : tie.In-loop invariant-loop decreases-loop) →
 typed t = t.before.before.before.before.before.before.requires.3.types
 
 loop-holds : tie.Need-loop-init invariant-loop decreases-loop
-loop-holds c = (omega arith, refl, refl, settling-none (omega arith) c.before.before.before.before.requires.3)
+loop-holds c = (omega arith, refl, refl, settling_none (omega arith) c.before.before.before.before.requires.3)
 
 mul-reach : tie.Need-overflow-mul-reach invariant-loop decreases-loop
 mul-reach c = let t = c.before.before in omega (arith, typed t (t.before.loop.k - 1) (omega arith))
@@ -53,11 +53,11 @@ loop-again c =
       omega arith,
       w.size ∙ size,
       f.size ∙ rw length-set long,
-      settling-more few room long s.requires.3.types s.requires.3.once small refl (omega arith) (omega arith) (rw e at m) f w,
+      settling_more few room long s.requires.3.types s.requires.3.once small refl (omega arith) (omega arith) (rw e at m) f w,
     )
 
 returns : tie.Need-returns invariant-loop decreases-loop
-returns c = let (h, size, long, s) = c.before.loop.invariant in settling-all (omega arith) size s
+returns c = let (h, size, long, s) = c.before.loop.invariant in settling_all (omega arith) size s
 
 pub settle-spec : {M : Type 1} → statement M
 settle-spec =

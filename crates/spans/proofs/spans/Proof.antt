@@ -13,7 +13,7 @@ grow-tree-requires c κs =
 settle-requires : tie.Need-settle-requires
 settle-requires c κs =
     let g = c.before.before.before.before.before.before.before.grow-tree.ensures in
-    (omega arith, g.order-size, g.steps-size, g.lined, omega (arith, g.size))
+    (omega arith, g.order_size, g.steps_size, g.lined, omega (arith, g.size))
 
 returns : tie.Need-returns
 returns c =

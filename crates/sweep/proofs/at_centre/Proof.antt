@@ -4,7 +4,7 @@ use Prim.Native.Nat.{◌*◌, ◌+◌, ◌-◌, ◌<◌}
 use native.Mathlib.Omega.{arith}
 use Rattle.sweep.specs.Candidate.{WithFirst, AtCentre, Sweepable}
 use Rattle.sweep.specs.Floors.{Passed}
-use Rattle.sweep.proofs.Walk.{Walk, walk_first, walk-next, walk-less, walk-done, few, follower-first, follower-next, which-first, ready-as, ready_on, passed-more, centre-none}
+use Rattle.sweep.proofs.Walk.{Walk, walk_first, walk-next, walk-less, walk-done, few, follower_first, follower_next, which-first, ready_as, ready_on, passed-more, centre_none}
 use Rattle.sweep.proofs.at_centre.Statement.{statement}
 use Rattle.sweep.proofs.at_centre.Tie as tie
 
@@ -23,7 +23,7 @@ start c = c.before.before.before.before.before.before.before.before.before.befor
 ready : (c : tie.After-new invariant-loop decreases-loop) →
     let s = (start c).args in
     Sweepable s.states.now s.area.now s.weights.now s.next.now s.mismatches.now s.gathered.now s.guesses.now s.at.size c.new.result.search
-ready c = ready-as (start c).requires.0 c.new.ensures
+ready c = ready_as (start c).requires.0 c.new.ensures
 
 -- The call of a turn, as its last steps have it, and the turn; there numbers of types are small.
 abbrev called : tie.After-slice-known6 invariant-loop decreases-loop → tie.After-with-first invariant-loop decreases-loop
@@ -39,7 +39,7 @@ cast-a : tie.Need-overflow-cast-a invariant-loop decreases-loop
 cast-a c = omega (arith, c.shared-slice-known6.given (129 * (start c.before).args.at.c))
 
 loop-holds : tie.Need-loop-init invariant-loop decreases-loop
-loop-holds c = let h = (start c.before).pre.1 in (walk_first (follower-first (ready c.before) h), centre-none (ready c.before) h)
+loop-holds c = let h = (start c.before).pre.1 in (walk_first (follower_first (ready c.before) h), centre_none (ready c.before) h)
 
 with-first-requires : tie.Need-with-first-requires invariant-loop decreases-loop
 with-first-requires c κs =
@@ -73,14 +73,14 @@ loop-less : tie.Need-loop-smaller invariant-loop decreases-loop
 loop-less c =
     let h = (turn c.before).loop-test.taken in
     let p = (start (turn c.before).before.before.before).pre in
-    walk-less h (follower-next p.0 p.1 h)
+    walk-less h (follower_next p.0 p.1 h)
 
 loop-again : tie.Need-loop-preserved invariant-loop decreases-loop
 loop-again c =
     let l = (turn c.before).before.loop in
     let n = (turn c.before).before.before.before in
     let s = start n in
-    let f = follower-next s.pre.0 s.pre.1 (turn c.before).loop-test.taken in (
+    let f = follower_next s.pre.0 s.pre.1 (turn c.before).loop-test.taken in (
       walk-next l.inv.0 f,
       passed-more (ready n) l.inv.1
           (λ made. WithFirst s.args.weights.now s.args.states.now s.args.area.now s.args.at.size.types made s.args.at.c l.a s.args.at.size.types)
@@ -88,13 +88,13 @@ loop-again c =
     )
 
 same_length : tie.Need-same-length invariant-loop decreases-loop
-same_length c = c.before.loop.invariant.1.kept.mismatches-size
+same_length c = c.before.loop.invariant.1.kept.mismatches_size
 
 same-length-2 : tie.Need-same-length-2 invariant-loop decreases-loop
 same-length-2 c = c.before.loop.invariant.1.swept.size
 
 same-length-3 : tie.Need-same-length-3 invariant-loop decreases-loop
-same-length-3 c = c.before.loop.invariant.1.kept.guesses-size ∙ sym (start c.before.before.before).pre.0.guesses-size
+same-length-3 c = c.before.loop.invariant.1.kept.guesses_sized ∙ sym (start c.before.before.before).pre.0.guesses_sized
 
 returns : tie.Need-returns invariant-loop decreases-loop
 returns c =

@@ -7,7 +7,7 @@ use Rattle.medians.specs.Swept.{Swept}
 use Rattle.sweep.specs.Candidate.{Candidate, Everywhere, TablesKept}
 use Rattle.sweep.specs.Floors.{Floors}
 use Rattle.sweep.proofs.Floors.{floors-one}
-use Rattle.sweep.proofs.Walk.{few, kept_then, kept-none, still-ready, everywhere-none, everywhere-more, everywhere-passed}
+use Rattle.sweep.proofs.Walk.{few, kept_then, kept-none, still_ready, everywhere-none, everywhere-more, everywhere-passed}
 use Rattle.sweep.proofs.sweep.Statement.{statement}
 use Rattle.sweep.proofs.sweep.Tie as tie
 
@@ -41,7 +41,7 @@ at-centre-requires : tie.Need-at-centre-requires invariant-loop decreases-loop
 at-centre-requires c κs =
     let i = c.before.before.before.before.before in
     let l = i.before.loop in
-    (still-ready (start i.before).pre.0 l.invariant.2 l.invariant.1, i.loop-test.true)
+    (still_ready (start i.before).pre.0 l.invariant.2 l.invariant.1, i.loop-test.true)
 
 mul-floors : tie.Need-overflow-mul-floors invariant-loop decreases-loop
 mul-floors c = omega (arith, small c.before.before.before.before.before.before.before.before.before.before.before.before.before)
@@ -62,7 +62,7 @@ loop-again c =
     let i = c.before.before in
     let l = i.before.loop in
     let s = start i.before in
-    let stays = l.invariant.2.made-stays in (
+    let stays = l.invariant.2.made_stays in (
       omega (arith, i.loop-test.true),
       ⊎_elim (λ w. rw (w.12, w.14) (kept_then stays l.invariant.1 w.4.ensures.kept)) (λ w. rw (w.1, w.3) l.invariant.1) c.if1.branch,
       ⊎_elim
@@ -73,20 +73,20 @@ loop-again c =
     )
 
 same_length : tie.Need-same-length invariant-loop decreases-loop
-same_length c = c.before.before.loop.invariant.1.mismatches-size
+same_length c = c.before.before.loop.invariant.1.mismatches_size
 
 same-length-2 : tie.Need-same-length-2 invariant-loop decreases-loop
 same-length-2 c = c.before.before.loop.invariant.2.size
 
 same-length-3 : tie.Need-same-length-3 invariant-loop decreases-loop
-same-length-3 c = let l = c.before.before in l.loop.invariant.1.guesses-size ∙ sym (start l).requires.0.guesses-size
+same-length-3 c = let l = c.before.before in l.loop.invariant.1.guesses_sized ∙ sym (start l).requires.0.guesses_sized
 
 returns : tie.Need-returns invariant-loop decreases-loop
 returns c =
     let l = c.before.before.loop in
     let e : l.c ≡ (start c.before.before).args.survey.size.types = omega (arith, l.invariant.0, c.before.loop-test.false) in
     record {
-      size-stays = c.with.ensures.0;
+      size_stays = c.with.ensures.0;
       kept = l.invariant.1;
       swept = rw c.with.ensures.1 (rw e at l.invariant.2);
       floors = rw c.with.ensures.2 l.invariant.3;

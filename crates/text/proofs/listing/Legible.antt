@@ -15,11 +15,11 @@ pub record Read (job block : Bytes) : Type 0 where
   pub head : 16 ≤ length block
   pub width-most : width job ≤ 64
   pub types-most : word block 0 ≤ 128
-  pub sampled-most : word block 2 ≤ word block 0
+  pub sampled_most : word block 2 ≤ word block 0
   pub records-from : word block 10 ≡ 16
-  pub records-in : 16 + 6 * word block 0 ≤ length block
+  pub records_in : 16 + 6 * word block 0 ≤ length block
   pub links-most : word block 6 ≤ 8128
-  pub links-in : word block 14 + 6 * word block 6 ≤ length block
+  pub links_within : word block 14 + 6 * word block 6 ≤ length block
 
 pub read_is : (job block : Bytes) → Legible job block → Read job block
 read_is job block e =
@@ -32,9 +32,9 @@ read_is job block e =
       head = h.head;
       width-most = m.passed.width-within.at_most;
       types-most = h.few;
-      sampled-most = h.sampled-most;
-      records-from = h.records-field;
-      records-in = omega (arith, h.reaches);
+      sampled_most = h.sampled_most;
+      records-from = h.records_field;
+      records_in = omega (arith, h.reaches);
       links-most = leb-true _ _ t.1;
-      links-in = leb-true _ _ s.1;
+      links_within = leb-true _ _ s.1;
     }

@@ -5,7 +5,7 @@ use Prim.Native.Nat.{◌+◌, ◌*◌, ◌-◌, ◌≤◌}
 use native.Mathlib.Omega.{arith}
 use lib.ListN.{set}
 use Rattle.triplets.specs.Followers.{FollowLine}
-use Rattle.triplets.proofs.Filling.{follower-none, first-filled, filled-since, filled-then, Filling, one-turn}
+use Rattle.triplets.proofs.Filling.{follower_none, first-filled, filled-since, filled_then, Filling, one-turn}
 use Rattle.triplets.proofs.Order.{mark-read}
 use Rattle.triplets.proofs.follow_above.Statement.{statement}
 use Rattle.triplets.proofs.follow_above.Tie as tie
@@ -23,7 +23,7 @@ abbrev first : (s : tie.Start invariant-loop decreases-loop) →
 first s = first-filled s.requires.0 s.requires.1 s.requires.3
 
 loop-holds : tie.Need-loop-init invariant-loop decreases-loop
-loop-holds c = (omega arith, record { within = omega arith; follower-is = follower-none; line = filled-since (first c) })
+loop-holds c = (omega arith, record { within = omega arith; follower_is = follower_none; line = filled-since (first c) })
 
 slice-write-next-2 : tie.Need-slice-write-next-2 invariant-loop decreases-loop
 slice-write-next-2 c = let l = c.before.before.before in omega (arith, l.loop.invariant.1.line.size, (first l.before).size)
@@ -45,7 +45,7 @@ returns : tie.Need-returns invariant-loop decreases-loop
 returns c =
     let l = c.before in
     let e : l.loop.i ≡ l.before.args.c + 1 = omega arith in
-    (rw e at l.loop.invariant.1.follower-is, rw e at (filled-then (first l.before) l.loop.invariant.1.line))
+    (rw e at l.loop.invariant.1.follower_is, rw e at (filled_then (first l.before) l.loop.invariant.1.line))
 
 pub follow-above-spec : {M : Type 1} → statement M
 follow-above-spec =

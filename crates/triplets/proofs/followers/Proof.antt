@@ -2,7 +2,7 @@
 use mathlib.Core.Path.{sym, ◌∙◌}
 use Prim.Native.Nat.{◌-◌}
 use native.Mathlib.Omega.{arith}
-use Rattle.triplets.proofs.Filling.{filled-since, filled-then, Lines, no_line, one_line, all_lines}
+use Rattle.triplets.proofs.Filling.{filled-since, filled_then, Lines, no_line, one_line, all_lines}
 use Rattle.triplets.proofs.followers.Statement.{statement}
 use Rattle.triplets.proofs.followers.Tie as tie
 
@@ -38,7 +38,7 @@ loop-again c =
     let below = c.before.before in
     let above = below.before.before.before.before in
     let l = above.before.before.before in
-    one_line (omega arith) (start l).requires.0 l.loop.invariant (filled-then above.follow-above.ensures.1 below.follow-below.ensures)
+    one_line (omega arith) (start l).requires.0 l.loop.invariant (filled_then above.follow-above.ensures.1 below.follow-below.ensures)
 
 same_length : tie.Need-same-length invariant-loop decreases-loop
 same_length c = let l = c.before in l.loop.invariant.size ∙ sym (start l).requires.2

@@ -11,9 +11,9 @@ use lib.ListN.{length, get_or, set, replicate, length-set}
 use lib.Seq.{get_or-set_same, get_or-set_other}
 use borrow.Author.Tests.{eq-eqb}
 use Rattle.rules.specs.Job.{Bytes}
-use Rattle.rules.proofs.Distance.{eqb-sym}
-use Rattle.triplets.specs.Mismatches.{differ, mismatchesIn, unknown, Cached, PairTable}
-use Rattle.triplets.proofs.mismatches.Mismatches.{bits_none, bits-ext}
+use Rattle.rules.proofs.Distance.{eqb_sym}
+use Rattle.triplets.specs.Mismatches.{differ, mismatches_in, unknown, Cached, PairTable}
+use Rattle.triplets.proofs.mismatches.Mismatches.{bits_none, bits_ext}
 
 all_none : (k n : ℕ) → get_or (replicate k unknown) n unknown ≡ unknown
 all_none zero n = refl
@@ -31,22 +31,22 @@ inside (x ∷ xs) zero d e h = refl
 inside (x ∷ xs) (suc i) d e h = inside xs i d e (omega arith)
 
 -- The order of two rows does not matter.
-pub apart-sym : (states : Bytes) (m i j : ℕ) → mismatchesIn states m i j ≡ mismatchesIn states m j i
-apart-sym states m i j = bits-ext (differ states i j) (differ states j i) (λ c. rw (eqb-sym (get_or states (64 * i + c) 0) (get_or states (64 * j + c) 0))) m 0
+pub apart_sym : (states : Bytes) (m i j : ℕ) → mismatches_in states m i j ≡ mismatches_in states m j i
+apart_sym states m i j = bits_ext (differ states i j) (differ states j i) (λ c. rw (eqb_sym (get_or states (64 * i + c) 0) (get_or states (64 * j + c) 0))) m 0
 
 -- A row does not differ from itself.
-pub apart-self : (states : Bytes) (m i : ℕ) → mismatchesIn states m i i ≡ 0
-apart-self states m i =
-    bits-ext (differ states i i) (λ c. false) (λ c. rw (eq-eqb (get_or states (64 * i + c) 0) (get_or states (64 * i + c) 0) refl)) m 0 ∙ bits_none m 0
+pub apart_self : (states : Bytes) (m i : ℕ) → mismatches_in states m i i ≡ 0
+apart_self states m i =
+    bits_ext (differ states i i) (λ c. false) (λ c. rw (eq-eqb (get_or states (64 * i + c) 0) (get_or states (64 * i + c) 0) refl)) m 0 ∙ bits_none m 0
 
 module _ (states : Bytes) (m made : ℕ) (mismatches : List ℕ) (i j : ℕ) (hi : i < made) (hj : j < made) where
-  pub kept-right : PairTable states m made mismatches → get_or mismatches (128 * i + j) 0 ≢ unknown → get_or mismatches (128 * i + j) 0 ≡ mismatchesIn states m i j
+  pub kept-right : PairTable states m made mismatches → get_or mismatches (128 * i + j) 0 ≢ unknown → get_or mismatches (128 * i + j) 0 ≡ mismatches_in states m i j
   kept-right room known =
       let same = inside mismatches (128 * i + j) 0 unknown (omega (arith, room.few, room.space)) in
       ⊎_elim (λ e. absurd (known (same ∙ e))) (λ e. same ∙ e) (room.cached.each i j hi hj)
 
   -- The mismatches of two rows are kept.
-  room-one : (r : ℕ) → r ≡ mismatchesIn states m i j → PairTable states m made mismatches → PairTable states m made (set mismatches (128 * i + j) r)
+  room-one : (r : ℕ) → r ≡ mismatches_in states m i j → PairTable states m made mismatches → PairTable states m made (set mismatches (128 * i + j) r)
   room-one r e room = record {
     narrow = room.narrow;
     few = room.few;
@@ -64,7 +64,7 @@ module _ (states : Bytes) (m made : ℕ) (mismatches : List ℕ) (i j : ℕ) (hi
   }
 
 -- It is kept for both orders.
-pub room-both : (states : Bytes) (m made : ℕ) (mismatches : List ℕ) (i j r : ℕ) → i < made → j < made → r ≡ mismatchesIn states m i j →
+pub room-both : (states : Bytes) (m made : ℕ) (mismatches : List ℕ) (i j r : ℕ) → i < made → j < made → r ≡ mismatches_in states m i j →
     PairTable states m made mismatches → PairTable states m made (set (set mismatches (128 * i + j) r) (128 * j + i) r)
 room-both states m made mismatches i j r hi hj e room =
-    room-one states m made (set mismatches (128 * i + j) r) j i hj hi r (e ∙ apart-sym states m i j) (room-one states m made mismatches i j hi hj r e room)
+    room-one states m made (set mismatches (128 * i + j) r) j i hj hi r (e ∙ apart_sym states m i j) (room-one states m made mismatches i j hi hj r e room)

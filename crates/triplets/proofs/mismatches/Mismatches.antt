@@ -5,8 +5,8 @@ use Prim.Native.Nat.{ℕ, zero, suc, ◌+◌, ◌*◌, ◌-◌, ◌≤◌, ◌<�
 use native.Mathlib.Omega.{arith}
 use lib.Bits.{bit_and, and_step}
 use lib.Pow.{pow_mono}
-use Rattle.memory.specs.Digits.{fromDigits}
-use Rattle.memory.proofs.Digits.{lowest, others, digits-ext, digits_same, Spelt, one-fits}
+use Rattle.memory.specs.Digits.{from_digits}
+use Rattle.memory.proofs.Digits.{lowest, others, digits_ext, digits_same, Spelt, one-fits}
 use Rattle.triplets.specs.Mismatches.{bit, bits_of}
 
 -- One bit.
@@ -33,20 +33,20 @@ bit-same false false e = refl
 
 -- No bit is set.
 pub bits_none : (n c : ℕ) → bits_of (λ i. false) n c ≡ 0
-unfolding fromDigits
+unfolding from_digits
 bits_none zero c = refl
 bits_none (suc n) c = rw (bits_none n (suc c))
 
 -- Mismatches are equal if they are in every bit, and only then.
-pub bits-ext : (p q : ℕ → Bool) → ((i : ℕ) → p i ≡ q i) → (n c : ℕ) → bits_of p n c ≡ bits_of q n c
-bits-ext p q e n c = digits-ext 2 _ _ n c (λ i l h. ap bit (e i))
+pub bits_ext : (p q : ℕ → Bool) → ((i : ℕ) → p i ≡ q i) → (n c : ℕ) → bits_of p n c ≡ bits_of q n c
+bits_ext p q e n c = digits_ext 2 _ _ n c (λ i l h. ap bit (e i))
 
 pub word_same : (p q : ℕ → Bool) (n c : ℕ) → bits_of p n c ≡ bits_of q n c → (i : ℕ) → c ≤ i → i < c + n → p i ≡ q i
 word_same p q n c e i l h = bit-same (p i) (q i) (digits_same (λ k. bit-small (p k)) (λ k. bit-small (q k)) n c e i l h)
 
 -- Both tests.
 pub word_and : (p q : ℕ → Bool) (n c : ℕ) → bit_and (bits_of p n c) (bits_of q n c) ≡ bits_of (λ i. p i && q i) n c
-unfolding fromDigits
+unfolding from_digits
 word_and p q zero c = refl
 word_and p q (suc n) c =
     and_step (bits_of p (suc n) c) (bits_of q (suc n) c)
@@ -56,7 +56,7 @@ word_and p q (suc n) c =
 
 -- One test and not the other.
 pub word-parts : (p q : ℕ → Bool) (n c : ℕ) → bits_of (λ i. p i && q i) n c + bits_of (λ i. p i && not (q i)) n c ≡ bits_of p n c
-unfolding fromDigits
+unfolding from_digits
 word-parts p q zero c = refl
 word-parts p q (suc n) c = omega (arith, word-parts p q n (suc c), bit-parts (p c) (q c))
 

@@ -6,13 +6,13 @@ use native.Mathlib.Nat.{not-suc-le-zero}
 use native.Mathlib.Omega.{arith}
 use borrow.Author.Count.{below_more}
 use Rattle.graph.proofs.Below.{first-is}
-use Rattle.rules.specs.Types.{sameRow}
+use Rattle.rules.specs.Types.{is_same_row}
 use Rattle.types.specs.State.{stored_at}
 use Rattle.types.proofs.find_row.Statement.{statement}
 use Rattle.types.proofs.find_row.Tie as tie
 
 abbrev invariant-loop : tie.invariant-loop
-invariant-loop states t row i₀ i = (i ≤ t) × ((k : ℕ) → k < i → sameRow (stored_at states k) row ≡ false)
+invariant-loop states t row i₀ i = (i ≤ t) × ((k : ℕ) → k < i → is_same_row (stored_at states k) row ≡ false)
 
 abbrev decreases-loop : tie.decreases-loop
 decreases-loop states t row i₀ i = t - i

@@ -7,8 +7,8 @@ use lib.ListN.{get_or}
 use Rattle.graph.proofs.Below.{is_false}
 use Rattle.rules.specs.Job.{Row}
 use Rattle.rules.proofs.Rows.{same_row}
-use Rattle.types.proofs.State.{storedAt-state, storedAt-is}
-use Rattle.types.proofs.Eight.{Alike, alike-eight, eight-alike}
+use Rattle.types.proofs.State.{stored_at-state, stored_at-is}
+use Rattle.types.proofs.Eight.{Alike, alike_eight, eight_alike}
 use Rattle.types.proofs.same_row.Statement.{statement}
 use Rattle.types.proofs.same_row.Tie as tie
 
@@ -27,8 +27,8 @@ returns c =
     let a = l.before.before.before.args in
     sym (is_false _ (λ t. c.if1.true (
     c.before.before.eight-at.ensures.is
-    ∙ alike-eight a.states.now a.row.now (64 * a.i) l.loop.k {n = 64} (omega arith)
-    (λ x h. sym (storedAt-state a.states.now a.i x h) ∙ ap (λ (r : Row). get_or r x 0) ((same_row _ _).0 t))
+    ∙ alike_eight a.states.now a.row.now (64 * a.i) l.loop.k {n = 64} (omega arith)
+    (λ x h. sym (stored_at-state a.states.now a.i x h) ∙ ap (λ (r : Row). get_or r x 0) ((same_row _ _).0 t))
     ∙ sym c.before.eight-at2.ensures.is)))
 
 loop-again : tie.Need-loop-preserved invariant-loop decreases-loop
@@ -38,7 +38,7 @@ loop-again c =
     let l = c.before.before.before.before in
     let a = l.before.before.before.args in (
       omega arith,
-      eight-alike a.states.now a.row.now (64 * a.i) l.loop.k
+      eight_alike a.states.now a.row.now (64 * a.i) l.loop.k
           first.bytes
           second.bytes
           l.loop.invariant.1
@@ -49,7 +49,7 @@ returns-2 : tie.Need-returns-2 invariant-loop decreases-loop
 returns-2 c =
     let a = c.before.before.before.before.args in
     sym ((same_row _ _).1
-    (storedAt-is a.states.now a.i a.row.now (omega arith) (omega arith) (λ k h. c.before.loop.invariant.1 k (omega arith))))
+    (stored_at-is a.states.now a.i a.row.now (omega arith) (omega arith) (λ k h. c.before.loop.invariant.1 k (omega arith))))
 
 pub same-row-spec : {M : Type 1} → statement M
 same-row-spec =

@@ -9,8 +9,8 @@ use lib.Seq.{get_or-take}
 use Rattle.graph.specs.Below.{first}
 use Rattle.graph.proofs.Below.{first-before, first-hits}
 use Rattle.rules.specs.Answers.{number, when◌refuse◌else◌, passed}
-use Rattle.rules.specs.Job.{Bytes, rows, width, checked, jobRow, jobRows}
-use Rattle.rules.specs.Types.{Node, rowCount, row_at, nodeAt, rows_of, sameRow, sampled, tooMany, row129}
+use Rattle.rules.specs.Job.{Bytes, rows, width, checked, job_row, job_rows}
+use Rattle.rules.specs.Types.{Node, row_count, row_at, node_at, rows_of, is_same_row, sampled, has_too_many, row129}
 use Rattle.rules.specs.declared.Kind.{Kind}
 use Rattle.rules.specs.declared.Answer.{Answer}
 use Rattle.rules.specs.declared.Answer.TheVariants.{Types}
@@ -19,14 +19,14 @@ use Rattle.rules.proofs.Rows.{same_row}
 use Rattle.rules.proofs.Sound.{rows-sampled}
 use Rattle.memory.specs.Placed.{placed}
 use Rattle.memory.proofs.Placed.{length-placed}
-use Rattle.types.specs.State.{stored, stored_at, laid, blank, kindsOf, single, more, oneMore}
+use Rattle.types.specs.State.{stored, stored_at, laid, blank, kinds_of, single, more, one_more}
 use Rattle.types.specs.Collapse.{entered, Collapsed}
 use Rattle.types.proofs.State.{OfWidth, length-stored, length-laid, laid_none, laid_more, laid-first, kinds-none, kinds-at, kinds-more, kinds-set, row_of, rows_more, rows-set, read_back}
-use Rattle.types.proofs.sample.Prefix.{known, New, known-none, known-all, known-count, new_row, known-row, new-129th, few-types}
+use Rattle.types.proofs.sample.Prefix.{known, New, known-none, known-all, known-count, new_row, known-row, new_129th, few_types}
 
 -- The types of the first k rows, in the state area and in the kinds.
 abbrev types_of : Bytes → ℕ → List Node
-types_of job k = known (jobRows job) k
+types_of job k = known (job_rows job) k
 
 pub record Holds (job before area : Bytes) (kinds : List Kind) (types k : ℕ) : Type 0 where
   pub ok : number (checked job) ≡ 0
@@ -34,8 +34,8 @@ pub record Holds (job before area : Bytes) (kinds : List Kind) (types k : ℕ) :
   pub read : k ≤ rows job
   pub few : types ≤ 128
   pub types_are : types ≡ length (types_of job k)
-  pub kinds-are : kinds ≡ kindsOf (types_of job k)
-  pub states-are : area ≡ placed before 0 (laid (rows_of (types_of job k)))
+  pub kinds_are : kinds ≡ kinds_of (types_of job k)
+  pub states_are : area ≡ placed before 0 (laid (rows_of (types_of job k)))
 
 -- The same, by other names for what is equal.
 pub holds_as : {job before area area' : Bytes} {kinds kinds' : List Kind} {types types' k : ℕ} → Holds job before area kinds types k →
@@ -50,8 +50,8 @@ none_read {job} {before} p room e = record {
   read = omega arith;
   few = omega arith;
   types_are = rw known-none;
-  kinds-are = rw known-none (e ∙ kinds-none);
-  states-are = rw known-none (laid_none before);
+  kinds_are = rw known-none (e ∙ kinds-none);
+  states_are = rw known-none (laid_none before);
 }
 
 -- Rows and types of a job that passed have its width.
@@ -59,13 +59,13 @@ module _ (job : Bytes) (ok : number (checked job) ≡ 0) where
   narrow : width job ≤ 64
   narrow = (passed_is job ok).width-within.at_most
 
-  pub row-size : (k : ℕ) → k < rows job → length (stored (jobRow job k)) ≡ 64
+  pub row-size : (k : ℕ) → k < rows job → length (stored (job_row job k)) ≡ 64
   row-size k h =
-      rw (← row-at job k h) (length-stored (row_at (jobRows job) k) (omega (arith, narrow, row-widths job k (rw length-rows h))))
+      rw (← row-at job k h) (length-stored (row_at (job_rows job) k) (omega (arith, narrow, row-widths job k (rw length-rows h))))
 
   wide : (k : ℕ) → OfWidth (width job) (rows_of (types_of job k))
   wide k =
-      let rs = jobRows job in
+      let rs = job_rows job in
       let n = length-take k rs in
       rows-sampled (λ r. length r ≡ width job) (take k rs) (λ q l. rw (get_or-take k rs q [] (omega arith)) (row-widths job q (omega arith)))
 
@@ -76,91 +76,91 @@ module _ {job before area : Bytes} {kinds : List Kind} {types k : ℕ} (held : H
   pub same_size : length area ≡ length before
   same_size =
       let n = length-laid (width job) (rows_of ts) (narrow job held.ok) (wide job held.ok k) in
-      rw held.states-are (length-placed before (laid (rows_of ts)) 0 (omega (arith, n, length-map ts (λ t. t.row))))
+      rw held.states_are (length-placed before (laid (rows_of ts)) 0 (omega (arith, n, length-map ts (λ t. t.row))))
 
   -- No type counts 256 rows while a row is left.
-  pub countable : (i : ℕ) → i < types → k < rows job → rowCount (get_or kinds i blank).origin < 256
+  pub countable : (i : ℕ) → i < types → k < rows job → row_count (get_or kinds i blank).origin < 256
   countable i l h =
-      rw (held.kinds-are, kinds-at ts i (omega arith))
-      (omega (arith, known-count (jobRows job) k i, (passed_is job held.ok).rows-within.at_most))
+      rw (held.kinds_are, kinds-at ts i (omega arith))
+      (omega (arith, known-count (job_rows job) k i, (passed_is job held.ok).rows-within.at_most))
 
   -- The end: the types held are those of the rows entered.
-  ended : (a : Answer) → a ≡ (when tooMany (jobRows job) refuse Types (row129 (jobRows job)) else passed) →
-      entered (jobRows job) ≡ take k (jobRows job) → Collapsed job before area (record { answer = a; types = types; kinds = kinds })
+  ended : (a : Answer) → a ≡ (when has_too_many (job_rows job) refuse Types (row129 (job_rows job)) else passed) →
+      entered (job_rows job) ≡ take k (job_rows job) → Collapsed job before area (record { answer = a; types = types; kinds = kinds })
   ended a is e = record {
     answered = is;
-    read_back = rw (e, held.types_are, held.kinds-are, held.states-are)
+    read_back = rw (e, held.types_are, held.kinds_are, held.states_are)
         (read_back (width job) ts (narrow job held.ok) (wide job held.ok k) before (omega arith));
-    kinds-left = rw e held.kinds-are;
-    states-left = rw e held.states-are;
+    kinds_left = rw e held.kinds_are;
+    states_left = rw e held.states_are;
   }
 
   pub all_read : rows job ≤ k → Collapsed job before area (record { answer = passed; types = types; kinds = kinds })
   unfolding entered
   all_read l =
-      let rs = jobRows job in
+      let rs = job_rows job in
       let e : k ≡ length rs = omega (arith, length-rows job) in
       let all = ap (known rs) e ∙ known-all rs in
       let few : length (sampled rs) ≤ 128 = rw (← all, ← held.types_are) held.few in
-      let t = few-types rs few in
+      let t = few_types rs few in
       ended passed (rw t) (rw (t, e))
 
   -- One row more: i is the first type that has it, or their number where none has.
-  module _ {i : ℕ} (h : k < rows job) (found : i ≡ first types (λ j. sameRow (stored_at area j) (stored (jobRow job k)))) where
-    within : k < length (jobRows job)
+  module _ {i : ℕ} (h : k < rows job) (found : i ≡ first types (λ j. is_same_row (stored_at area j) (stored (job_row job k)))) where
+    within : k < length (job_rows job)
     within = rw length-rows h
 
     abbrev has : ℕ → Bool
-    has j = sameRow (row_at (rows_of ts) j) (row_at (jobRows job) k)
+    has j = is_same_row (row_at (rows_of ts) j) (row_at (job_rows job) k)
 
     -- Comparing what is stored finds what the rows say.
     found-is : i ≡ first types has
     found-is =
         let n : length (rows_of ts) ≡ types = rw (length-map, held.types_are) in
-        let r = row_at (jobRows job) k in
+        let r = row_at (job_rows job) k in
         let e = laid-first (width job) (rows_of ts) (narrow job held.ok) (wide job held.ok k) before r (row-widths job k within) in
-        found ∙ rw (held.states-are, ← row-at job k h, ← n) e
+        found ∙ rw (held.states_are, ← row-at job k h, ← n) e
 
-    hit : i < types → row_at (rows_of ts) i ≡ row_at (jobRows job) k
+    hit : i < types → row_at (rows_of ts) i ≡ row_at (job_rows job) k
     hit l = (same_row _ _).0 (rw (← found-is) at (first-hits types has (rw found-is at l)))
 
-    miss : types ≤ i → New (jobRows job) k
+    miss : types ≤ i → New (job_rows job) k
     miss l j b e = false≢true (sym (first-before types has j (omega (arith, found-is))) ∙ (same_row _ _).1 e)
 
-    pub one-row-more : i < types → Holds job before area (set kinds i (oneMore (get_or kinds i blank))) types (k + 1)
+    pub one-row-more : i < types → Holds job before area (set kinds i (one_more (get_or kinds i blank))) types (k + 1)
     one-row-more l =
         let b : i < length ts = omega arith in
-        let t : Node = record { row = row_at (jobRows job) k; origin = more (nodeAt ts i).origin } in
-        let e = known-row (jobRows job) k within i b (hit l) in
+        let t : Node = record { row = row_at (job_rows job) k; origin = more (node_at ts i).origin } in
+        let e = known-row (job_rows job) k within i b (hit l) in
         record {
           ok = held.ok;
           room = held.room;
           read = omega arith;
           few = held.few;
           types_are = rw (e, length-set) held.types_are;
-          kinds-are = rw (e, held.kinds-are, kinds-at ts i (omega arith)) (kinds-set ts i t b);
-          states-are = rw (e, rows-set ts i t (sym (hit l) ∙ row_of ts i)) held.states-are;
+          kinds_are = rw (e, held.kinds_are, kinds-at ts i (omega arith)) (kinds-set ts i t b);
+          states_are = rw (e, rows-set ts i t (sym (hit l) ∙ row_of ts i)) held.states_are;
         }
 
     pub one-type-more : types ≤ i → types < 128 →
-        Holds job before (placed area (64 * types) (stored (jobRow job k))) (set kinds types (single k)) (types + 1) (k + 1)
+        Holds job before (placed area (64 * types) (stored (job_row job k))) (set kinds types (single k)) (types + 1) (k + 1)
     one-type-more l few =
         let n : 64 * length (rows_of ts) ≡ 64 * types = rw (length-map, held.types_are) in
-        let e = new_row (jobRows job) k within (miss l) in
+        let e = new_row (job_rows job) k within (miss l) in
         record {
           ok = held.ok;
           room = held.room;
           read = omega arith;
           few = omega arith;
           types_are = rw (e, length-append, held.types_are);
-          kinds-are = rw (e, held.kinds-are, held.types_are) (kinds-more ts _);
-          states-are = rw (e, rows_more, ← n, held.states-are, ← row-at job k h)
-              (laid_more (width job) (rows_of ts) (narrow job held.ok) (wide job held.ok k) before (row_at (jobRows job) k));
+          kinds_are = rw (e, held.kinds_are, held.types_are) (kinds-more ts _);
+          states_are = rw (e, rows_more, ← n, held.states_are, ← row-at job k h)
+              (laid_more (width job) (rows_of ts) (narrow job held.ok) (wide job held.ok k) before (row_at (job_rows job) k));
         }
 
     -- The 129th type.
     pub refused : types ≤ i → types ≡ 128 → Collapsed job before area (record { answer = Types k; types = types; kinds = kinds })
     unfolding entered
     refused l e =
-        let (t, r) = new-129th (jobRows job) k within (miss l) (sym held.types_are ∙ e) in
+        let (t, r) = new_129th (job_rows job) k within (miss l) (sym held.types_are ∙ e) in
         ended (Types k) (rw (t, r)) (rw (t, r))

@@ -11,38 +11,38 @@ use lib.ListN.{length, get_or, take, set, length-take, get_or-map, get_or-eq_def
 use lib.Seq.{take-length, length-take-le, get_or-take}
 use borrow.Author.Tests.{le-ltb}
 use Rattle.graph.specs.Below.{gather, only, count}
-use Rattle.graph.proofs.Below.{in_place, is_false, gather-more, gather_ext, sum_more, count-le, count-ext, count-zero}
+use Rattle.graph.proofs.Below.{in_place, is_false, gather-more, gather_ext, sum_more, count_le, count_ext, count_zero}
 use Rattle.rules.specs.Job.{Row}
-use Rattle.rules.specs.Types.{Node, rowCount, row_at, nodeAt, rows_of, sameRow, isFirst, firsts, sampledAt, sampled, tooMany, row129}
+use Rattle.rules.specs.Types.{Node, row_count, row_at, node_at, rows_of, is_same_row, is_first, firsts, sampled_at, sampled, has_too_many, row129}
 use Rattle.rules.specs.declared.Origin.TheVariants.{Sampled}
 use Rattle.rules.proofs.Rows.{same_row}
-use Rattle.rules.proofs.Types.{is-first, first-same, first-take, lead, lead-le, lead-same, lead-first, in-firsts, firsts-nth, too-many-at, length-sampled, sampled-node}
+use Rattle.rules.proofs.Types.{is-first, first-same, first-take, lead, lead_le, lead-same, lead-first, in_firsts, firsts-nth, too_many-at, length-sampled, sampled-node}
 use Rattle.types.specs.State.{more}
 
 -- Two functions agree at each place of a list, or at each but one.
 module _ {A B : Type 0} (f g : A → B) where
-  map-ext : (xs : List A) (d : A) → ((j : ℕ) → j < length (map g xs) → f (get_or xs j d) ≡ g (get_or xs j d)) → map f xs ≡ map g xs
-  map-ext [] d e = refl
-  map-ext (x ∷ xs) d e = ap₂ ◌∷◌ (e 0 (omega arith)) (map-ext xs d (λ j l. e (suc j) (omega arith)))
+  map_ext : (xs : List A) (d : A) → ((j : ℕ) → j < length (map g xs) → f (get_or xs j d) ≡ g (get_or xs j d)) → map f xs ≡ map g xs
+  map_ext [] d e = refl
+  map_ext (x ∷ xs) d e = ap₂ ◌∷◌ (e 0 (omega arith)) (map_ext xs d (λ j l. e (suc j) (omega arith)))
 
   map-set : (xs : List A) (d : A) (i : ℕ) → ((j : ℕ) → j < length (map g xs) → j ≢ i → f (get_or xs j d) ≡ g (get_or xs j d)) →
       map f xs ≡ set (map g xs) i (f (get_or xs i d))
   map-set [] d i e = refl
-  map-set (x ∷ xs) d zero e = ap (λ ys. f x ∷ ys) (map-ext xs d (λ j l. e (suc j) (omega arith) (omega arith)))
+  map-set (x ∷ xs) d zero e = ap (λ ys. f x ∷ ys) (map_ext xs d (λ j l. e (suc j) (omega arith) (omega arith)))
   map-set (x ∷ xs) d (suc i) e =
       ap₂ ◌∷◌ (e 0 (omega arith) (omega arith)) (map-set xs d i (λ j l ne. e (suc j) (omega arith) (omega arith)))
 
 module _ (rs : List Row) where
   -- A type has the row of its first row.
   type_row : (i : ℕ) → i < length (sampled rs) → row_at (rows_of (sampled rs)) i ≡ row_at rs (get_or (firsts rs) i 0)
-  unfolding sampledAt
+  unfolding sampled_at
   type_row i h = get_or-map (λ (t : Node). t.row) (sampled rs) i _ ∙ ap (λ (t : Node). t.row) (sampled-node rs i h)
 
   -- Each row is the row of a type.
-  pub type-of-row : (k : ℕ) → k < length rs → (i : ℕ) × (i < length (sampled rs)) × (row_at (rows_of (sampled rs)) i ≡ row_at rs k)
-  type-of-row k h =
-      let l : lead rs k h < length rs = omega (arith, lead-le rs k h) in
-      let (i, b, at) = in_place (lead rs k h) (firsts rs) ((in-firsts rs (lead rs k h)).1 (l, lead-first rs k h)) in
+  pub type_of_row : (k : ℕ) → k < length rs → (i : ℕ) × (i < length (sampled rs)) × (row_at (rows_of (sampled rs)) i ≡ row_at rs k)
+  type_of_row k h =
+      let l : lead rs k h < length rs = omega (arith, lead_le rs k h) in
+      let (i, b, at) = in_place (lead rs k h) (firsts rs) ((in_firsts rs (lead rs k h)).1 (l, lead-first rs k h)) in
       let b' : i < length (sampled rs) = rw length-sampled b in
       (i, b', type_row i b' ∙ ap (row_at rs) (at 0) ∙ lead-same rs k h)
 
@@ -56,16 +56,16 @@ module _ (rs : List Row) where
       sym a.before ∙ ap (λ k. length (firsts (take k rs))) one ∙ b.before
 
   -- A type counts no more rows than there are.
-  pub count-rows : (i : ℕ) → rowCount (nodeAt (sampled rs) i).origin ≤ length rs
-  unfolding sampledAt
+  pub count-rows : (i : ℕ) → row_count (node_at (sampled rs) i).origin ≤ length rs
+  unfolding sampled_at
   count-rows i = elim (dec_lt i (length (sampled rs))) [
-    | yes h ↦ rw (sampled-node rs i h) (count-le (length rs) (λ j. sameRow (row_at rs j) (row_at rs (get_or (firsts rs) i 0))))
+    | yes h ↦ rw (sampled-node rs i h) (count_le (length rs) (λ j. is_same_row (row_at rs j) (row_at rs (get_or (firsts rs) i 0))))
     | no f ↦ rw (get_or-eq_default (sampled rs) _ {n = i} (omega arith)) (omega arith)
   ]
 
   -- 128 types are not too many.
-  pub few-types : length (sampled rs) ≤ 128 → tooMany rs ≡ false
-  few-types h = le-ltb 128 (length (firsts rs)) (rw length-sampled at h)
+  pub few_types : length (sampled rs) ≤ 128 → has_too_many rs ≡ false
+  few_types h = le-ltb 128 (length (firsts rs)) (rw length-sampled at h)
 
 -- The types of the first p rows. Row p is new if none of them has it.
 abbrev pub known : List Row → ℕ → List Node
@@ -83,82 +83,82 @@ pub known-all : (rs : List Row) → known rs (length rs) ≡ sampled rs
 known-all rs = ap sampled (take-length rs)
 
 -- The first p rows are at most p of each type.
-pub known-count : (rs : List Row) (p i : ℕ) → rowCount (nodeAt (known rs p) i).origin ≤ p
+pub known-count : (rs : List Row) (p i : ℕ) → row_count (node_at (known rs p) i).origin ≤ p
 known-count rs p i = omega (arith, count-rows (take p rs) i, length-take p rs)
 
 -- The first rows of types among the first q rows.
-firsts-of : (rs : List Row) (q : ℕ) → q ≤ length rs → firsts (take q rs) ≡ gather q (λ k. only (isFirst rs k) k)
+firsts_of : (rs : List Row) (q : ℕ) → q ≤ length rs → firsts (take q rs) ≡ gather q (λ k. only (is_first rs k) k)
 unfolding firsts
-firsts-of rs q h = rw (length-take-le q rs h) (gather_ext q _ _ (λ k l. rw (first-take rs q k l)))
+firsts_of rs q h = rw (length-take-le q rs h) (gather_ext q _ _ (λ k l. rw (first-take rs q k l)))
 
 -- The rows that equal row k; and row k as the first row of a type with c rows, as the first q rows have it.
 abbrev equals : List Row → ℕ → ℕ → Bool
-equals rs k i = sameRow (row_at rs i) (row_at rs k)
+equals rs k i = is_same_row (row_at rs i) (row_at rs k)
 
 abbrev node : List Row → ℕ → ℕ → Node
 node rs k c = record { row = row_at rs k; origin = Sampled c k }
 
-node_of : (rs : List Row) (q k : ℕ) → q ≤ length rs → k < q → sampledAt (take q rs) k ≡ node rs k (count q (equals rs k))
-unfolding sampledAt
+node_of : (rs : List Row) (q k : ℕ) → q ≤ length rs → k < q → sampled_at (take q rs) k ≡ node rs k (count q (equals rs k))
+unfolding sampled_at
 node_of rs q k h l =
     rw (length-take-le q rs h, get_or-take q rs k [] l)
-    (ap (node rs k) (count-ext q _ _ (λ i b. ap (λ r. sameRow r (row_at rs k)) (get_or-take q rs i [] b))))
+    (ap (node rs k) (count_ext q _ _ (λ i b. ap (λ r. is_same_row r (row_at rs k)) (get_or-take q rs i [] b))))
 
 -- One row more: row p.
 module _ (rs : List Row) (p : ℕ) (h : p < length rs) where
   -- The first row of type i: it is before row p, and the type has it.
-  abbrev firstOf : ℕ → ℕ
-  firstOf i = get_or (firsts (take p rs)) i 0
+  abbrev first_of : ℕ → ℕ
+  first_of i = get_or (firsts (take p rs)) i 0
 
-  p-rows : length (take p rs) ≡ p
-  p-rows = length-take-le p rs (omega arith)
+  p_rows : length (take p rs) ≡ p
+  p_rows = length-take-le p rs (omega arith)
 
-  first-before-p : (i : ℕ) → i < length (known rs p) → firstOf i < p
-  first-before-p i l = rw p-rows at (firsts-nth (take p rs) i (rw length-sampled at l)).within
+  first-before_p : (i : ℕ) → i < length (known rs p) → first_of i < p
+  first-before_p i l = rw p_rows at (firsts-nth (take p rs) i (rw length-sampled at l)).within
 
-  first-row-of : (i : ℕ) → i < length (known rs p) → row_at (rows_of (known rs p)) i ≡ row_at rs (firstOf i)
-  first-row-of i l = type_row (take p rs) i l ∙ get_or-take p rs (firstOf i) [] (first-before-p i l)
+  first-row_of : (i : ℕ) → i < length (known rs p) → row_at (rows_of (known rs p)) i ≡ row_at rs (first_of i)
+  first-row_of i l = type_row (take p rs) i l ∙ get_or-take p rs (first_of i) [] (first-before_p i l)
 
   -- A new row is the first of its type.
-  pub new-first : New rs p ↔ (isFirst rs p ≡ true)
+  pub new-first : New rs p ↔ (is_first rs p ≡ true)
   new-first = (
-    λ n. (is-first rs p).1 (λ k l e. let (i, b, s) = type-of-row (take p rs) k (rw p-rows l) in n i b (s ∙ get_or-take p rs k [] l ∙ e)),
-    λ e i l s. (is-first rs p).0 e (firstOf i) (first-before-p i l) (sym (first-row-of i l) ∙ s),
+    λ n. (is-first rs p).1 (λ k l e. let (i, b, s) = type_of_row (take p rs) k (rw p_rows l) in n i b (s ∙ get_or-take p rs k [] l ∙ e)),
+    λ e i l s. (is-first rs p).0 e (first_of i) (first-before_p i l) (sym (first-row_of i l) ∙ s),
   )
 
   -- With 128 types before it, it is the 129th.
-  pub new-129th : New rs p → length (known rs p) ≡ 128 → (tooMany rs ≡ true) × (row129 rs ≡ p)
-  new-129th n e = too-many-at rs p (record { within = h; new = new-first.0 n; before = sym (length-sampled (take p rs)) ∙ e })
+  pub new_129th : New rs p → length (known rs p) ≡ 128 → (has_too_many rs ≡ true) × (row129 rs ≡ p)
+  new_129th n e = too_many-at rs p (record { within = h; new = new-first.0 n; before = sym (length-sampled (take p rs)) ∙ e })
 
   -- Row p is one first row more, or none.
-  firsts_more : firsts (take (p + 1) rs) ≡ firsts (take p rs) ++ only (isFirst rs p) p
+  firsts_more : firsts (take (p + 1) rs) ≡ firsts (take p rs) ++ only (is_first rs p) p
   firsts_more =
-      firsts-of rs (p + 1) (omega arith) ∙ gather-more p _
-      ∙ ap (λ ks. ks ++ only (isFirst rs p) p) (sym (firsts-of rs p (omega arith)))
+      firsts_of rs (p + 1) (omega arith) ∙ gather-more p _
+      ∙ ap (λ ks. ks ++ only (is_first rs p) p) (sym (firsts_of rs p (omega arith)))
 
   -- Row p is counted where it equals the first row: by its own type alone if it is new, by a type that has it, and by no other.
-  node-more : (k : ℕ) → k ≤ p → sampledAt (take (p + 1) rs) k ≡ node rs k (count p (equals rs k) + cond (equals rs k p) 1 0)
+  node-more : (k : ℕ) → k ≤ p → sampled_at (take (p + 1) rs) k ≡ node rs k (count p (equals rs k) + cond (equals rs k p) 1 0)
   node-more k l = node_of rs (p + 1) k (omega arith) (omega arith) ∙ ap (node rs k) (sum_more p _)
 
-  node-new : isFirst rs p ≡ true → sampledAt (take (p + 1) rs) p ≡ node rs p 1
+  node-new : is_first rs p ≡ true → sampled_at (take (p + 1) rs) p ≡ node rs p 1
   node-new f =
-      let none = count-zero p (equals rs p) (λ i l. is_false (equals rs p i) (λ t. (is-first rs p).0 f i l ((same_row _ _).0 t))) in
+      let none = count_zero p (equals rs p) (λ i l. is_false (equals rs p i) (λ t. (is-first rs p).0 f i l ((same_row _ _).0 t))) in
       node-more p (omega arith) ∙ rw (none, (same_row (row_at rs p) (row_at rs p)).1 refl)
 
   node-other : (i : ℕ) → i < length (known rs p) → row_at (rows_of (known rs p)) i ≢ row_at rs p →
-      sampledAt (take (p + 1) rs) (firstOf i) ≡ sampledAt (take p rs) (firstOf i)
+      sampled_at (take (p + 1) rs) (first_of i) ≡ sampled_at (take p rs) (first_of i)
   node-other i l ne =
-      let b = first-before-p i l in
-      let no_more = is_false (equals rs (firstOf i) p) (λ t. ne (first-row-of i l ∙ sym ((same_row _ _).0 t))) in
-      node-more (firstOf i) (omega arith) ∙ rw (node_of rs p (firstOf i) (omega arith) b, no_more, add-zero)
+      let b = first-before_p i l in
+      let no_more = is_false (equals rs (first_of i) p) (λ t. ne (first-row_of i l ∙ sym ((same_row _ _).0 t))) in
+      node-more (first_of i) (omega arith) ∙ rw (node_of rs p (first_of i) (omega arith) b, no_more, add-zero)
 
   node-same : (i : ℕ) → i < length (known rs p) → row_at (rows_of (known rs p)) i ≡ row_at rs p →
-      sampledAt (take (p + 1) rs) (firstOf i) ≡ record { row = row_at rs p; origin = more (nodeAt (known rs p) i).origin }
+      sampled_at (take (p + 1) rs) (first_of i) ≡ record { row = row_at rs p; origin = more (node_at (known rs p) i).origin }
   node-same i l e =
-      let b = first-before-p i l in
-      let same = sym (first-row-of i l) ∙ e in
-      let one_more = (same_row (row_at rs p) (row_at rs (firstOf i))).1 (sym same) in
-      node-more (firstOf i) (omega arith) ∙ rw (sampled-node (take p rs) i l, node_of rs p (firstOf i) (omega arith) b, one_more, same)
+      let b = first-before_p i l in
+      let same = sym (first-row_of i l) ∙ e in
+      let one_more = (same_row (row_at rs p) (row_at rs (first_of i))).1 (sym same) in
+      node-more (first_of i) (omega arith) ∙ rw (sampled-node (take p rs) i l, node_of rs p (first_of i) (omega arith) b, one_more, same)
 
   -- A new row is one type more.
   pub new_row : New rs p → known rs (p + 1) ≡ known rs p ++ (record { row = row_at rs p; origin = Sampled 1 p } ∷ [])
@@ -167,13 +167,13 @@ module _ (rs : List Row) (p : ℕ) (h : p < length rs) where
       let ks = firsts (take p rs) in
       let f = new-first.0 n in
       rw (firsts_more, f)
-      (map-append _ ks (p ∷ []) ∙ ap₂ (λ ts t. ts ++ (t ∷ [])) (map-ext _ _ ks 0 (λ i l. node-other i l (n i l))) (node-new f))
+      (map-append _ ks (p ∷ []) ∙ ap₂ (λ ts t. ts ++ (t ∷ [])) (map_ext _ _ ks 0 (λ i l. node-other i l (n i l))) (node-new f))
 
   -- A row that a type has is counted there, and the other types stay.
   pub known-row : (i : ℕ) → i < length (known rs p) → row_at (rows_of (known rs p)) i ≡ row_at rs p →
-      known rs (p + 1) ≡ set (known rs p) i (record { row = row_at rs p; origin = more (nodeAt (known rs p) i).origin })
+      known rs (p + 1) ≡ set (known rs p) i (record { row = row_at rs p; origin = more (node_at (known rs p) i).origin })
   unfolding sampled
   known-row i l e =
-      rw (firsts_more, is_false (isFirst rs p) (λ f. new-first.1 f i l e), append-nil)
+      rw (firsts_more, is_false (is_first rs p) (λ f. new-first.1 f i l e), append-nil)
       (map-set _ _ (firsts (take p rs)) 0 i (λ j b ne. node-other j b (λ q. ne (type-once (take p rs) j i b l (q ∙ sym e))))
       ∙ ap (set (known rs p) i) (node-same i l e))

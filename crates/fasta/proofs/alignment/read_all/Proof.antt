@@ -9,11 +9,11 @@ use borrow.Author.Count.{below_none, below_more}
 use borrow.Author.Rules.{rules}
 use Rattle.rules.specs.Job.{Bytes}
 use Rattle.graph.specs.Below.{sum}
-use Rattle.fasta.specs.Lines.{lineStart, AtByte}
+use Rattle.fasta.specs.Lines.{line_start, AtByte}
 use Rattle.fasta.specs.Answers.{refuses}
 use Rattle.fasta.proofs.conversion.Answers.{refuses-told, passes-told}
 use Rattle.fasta.specs.Sequences.{opened}
-use Rattle.fasta.specs.Read.{lengthsTo, CountedTo}
+use Rattle.fasta.specs.Read.{lengths_to, CountedTo}
 use Rattle.fasta.proofs.alignment.Faults.{Clear, few-opened}
 use Rattle.fasta.proofs.alignment.Counted.{lengths_none, lengths-length, fault-left, passed-left}
 use Rattle.fasta.proofs.alignment.Answered.{read-fault, read_whole}
@@ -22,7 +22,7 @@ use Rattle.fasta.proofs.alignment.read_all.Tie as tie
 
 abbrev invariant-loop : tie.invariant-loop
 invariant-loop text lengths₀ begun₀ line₀ i₀ lengths begun line i =
-    (i ≤ length text) × (line ≡ lineStart text i) × (begun ≡ opened text i) × (lengths ≡ lengthsTo text i) × Clear text i
+    (i ≤ length text) × (line ≡ line_start text i) × (begun ≡ opened text i) × (lengths ≡ lengths_to text i) × Clear text i
 
 abbrev decreases-loop : tie.decreases-loop
 decreases-loop text lengths₀ begun₀ line₀ i₀ lengths begun line i = length text - i
@@ -38,14 +38,14 @@ counted c =
     let inv = c.before.loop.invariant in
     record {
       inside = c.loop-test.true;
-      begun-is = inv.2;
+      begun_is = inv.2;
       few = omega (arith, inv.2, few-opened (text c) c.before.loop.i inv.4);
-      lengths-are = inv.3;
+      lengths_are = inv.3;
     }
 
 -- The lengths are as many as were lent.
 all-counted : (c : tie.At-loop invariant-loop decreases-loop) {lengths : Bytes} (i : ℕ) → let a = c.before.before.before.args in
-    lengths ≡ lengthsTo a.text.now i → length lengths ≡ length a.lengths.now
+    lengths ≡ lengths_to a.text.now i → length lengths ≡ length a.lengths.now
 all-counted c i e =
     ap length e ∙ lengths-length _ i ∙ sym (ap length c.before.before.before.requires ∙ length-replicate {A = ℕ} 256 0)
 
@@ -53,7 +53,7 @@ fault : (c : tie.Then1 invariant-loop decreases-loop) → refuses c.before.befor
 fault c = refuses-told c.before.before.before.before.before.take-byte.result c.before.before.tell-conversion.ensures.number_is c.if1.true
 
 loop-holds : tie.Need-loop-init invariant-loop decreases-loop
-unfolding lineStart sum
+unfolding line_start sum
 loop-holds c = (omega arith, refl, refl, c.before.before.requires ∙ lengths_none _, below_none _)
 
 take-byte-requires : tie.Need-take-byte-requires invariant-loop decreases-loop
@@ -68,13 +68,13 @@ returns : tie.Need-returns invariant-loop decreases-loop
 returns c =
     let t = c.before.before.before.before.before in
     let l = t.before.before in
-    read-fault _ _ l.loop-test.true l.before.loop.invariant.4 t.take-byte.ensures.fault-is (fault c) l.before.loop.invariant.2
+    read-fault _ _ l.loop-test.true l.before.loop.invariant.4 t.take-byte.ensures.fault_is (fault c) l.before.loop.invariant.2
     (fault-left _ _ t.take-byte.ensures (fault c))
 
 next-begun-requires : tie.Need-next-begun-requires invariant-loop decreases-loop
 next-begun-requires c κs =
     let l = c.before.before.before.before.before.before.before in
-    (at_byte l, (counted l).begun-is, (counted l).few)
+    (at_byte l, (counted l).begun_is, (counted l).few)
 
 next-line-requires : tie.Need-next-line-requires invariant-loop decreases-loop
 next-line-requires c κs = at_byte c.before.before.before.before.before.before.before.before
@@ -89,7 +89,7 @@ loop-again c =
       c.next-line.ensures,
       c.before.next-begun.ensures,
       passed-left _ _ t.take-byte.ensures told ∙ rw add-one,
-      below_more _ _ l.before.loop.invariant.4 (rw t.take-byte.ensures.fault-is at told),
+      below_more _ _ l.before.loop.invariant.4 (rw t.take-byte.ensures.fault_is at told),
     )
 
 same-length-2 : tie.Need-same-length-2 invariant-loop decreases-loop

@@ -5,7 +5,7 @@ use native.Mathlib.Omega.{arith}
 use borrow.Author.Rules.{rules}
 use Rattle.fasta.specs.Answers.{refuses}
 use Rattle.fasta.proofs.conversion.Answers.{refuses-told, passes-told}
-use Rattle.fasta.proofs.alignment.Sizes.{fault-measured, rows_are, rows-within, length_at, narrow, passes_on, none-measured, empty-measured, uneven-measured, even-measured, refused_as, sized-as}
+use Rattle.fasta.proofs.alignment.Sizes.{fault-measured, rows_are, rows-within, length_at, narrow, passes_on, none-measured, empty-measured, uneven_measured, even-measured, refused_as, sized_as}
 use Rattle.fasta.proofs.alignment.size_of_job.Statement.{statement}
 use Rattle.fasta.proofs.alignment.size_of_job.Tie as tie
 
@@ -54,7 +54,7 @@ returns-4 c =
     let first = three.before in
     let two = first.before.before in
     let e = two.before in
-    let m = uneven-measured _ (reading e).read_all.ensures (whole e) two.if2.false _ first.first-outside.ensures
+    let m = uneven_measured _ (reading e).read_all.ensures (whole e) two.if2.false _ first.first-outside.ensures
     three.if3.false _ second.first-outside2.ensures four.if4.true in
     refused_as _ m refl c.no-size4.ensures
 
@@ -68,7 +68,7 @@ returns-5 c =
     let read = (reading e).read_all.ensures in
     let m = even-measured _ read (whole e) two.if2.false _ first.first-outside.ensures
     three.if3.false _ second.first-outside2.ensures c.if4.false in
-    sized-as _ m (passes_on _ read (whole e)) (rows_are _ read (whole e)) (length_at _ read (whole e) 0 (omega arith))
+    sized_as _ m (passes_on _ read (whole e)) (rows_are _ read (whole e)) (length_at _ read (whole e) 0 (omega arith))
 
 pub size-of-job-spec : {M : Type 1} → statement M
 size-of-job-spec =

@@ -4,7 +4,7 @@ use mathlib.Core.Bool.{true, false}
 use native.Mathlib.Omega.{arith}
 use borrow.Author.Tests.{not-true, not-false}
 use borrow.Author.Rules.{rules}
-use Rattle.fasta.specs.Lines.{opens, isState}
+use Rattle.fasta.specs.Lines.{opens, is_state}
 use Rattle.fasta.proofs.alignment.Faults.{skipped-passes, many_is, opener-passes}
 use Rattle.fasta.proofs.alignment.Counted.{lengths-same, taken-fault, taken-passed}
 use Rattle.fasta.proofs.alignment.take_byte.Statement.{statement}
@@ -14,7 +14,7 @@ use Rattle.fasta.proofs.alignment.take_byte.Tie as tie
 abbrev entry : tie.Else1 → tie.Start
 entry c = c.before.before.before.before
 
-none : (c : tie.Else1) → let s = entry c in isState s.args.text.now s.args.i ≡ false
+none : (c : tie.Else1) → let s = entry c in is_state s.args.text.now s.args.i ≡ false
 none c = sym c.before.is_state.ensures ∙ c.if1.false
 
 opener : (c : tie.Else2) → let s = entry c.before.before in opens s.args.text.now s.args.i ≡ true
@@ -29,18 +29,18 @@ returns-2 : tie.Need-returns-2
 returns-2 c =
     let e = c.before.before in
     let skipped = sym c.before.opens.ensures ∙ not-true _ c.if2.true in
-    taken-passed _ _ (skipped-passes _ _ (none e) skipped) ((entry e).requires.1.lengths-are ∙ lengths-same _ _ (none e))
+    taken-passed _ _ (skipped-passes _ _ (none e) skipped) ((entry e).requires.1.lengths_are ∙ lengths-same _ _ (none e))
 
 returns-3 : tie.Need-returns-3
 returns-3 c =
     let s = entry c.before.before.before in
-    taken-fault _ _ (many_is _ _ (none c.before.before.before) (opener c.before) (omega arith)) refl s.pre.1.lengths-are
+    taken-fault _ _ (many_is _ _ (none c.before.before.before) (opener c.before) (omega arith)) refl s.pre.1.lengths_are
 
 returns-4 : tie.Need-returns-4
 returns-4 c =
     let e = c.before.before.before in
     let s = entry e in
-    taken-passed _ _ (opener-passes _ _ (none e) (opener c.before) (omega arith)) (s.pre.1.lengths-are ∙ lengths-same _ _ (none e))
+    taken-passed _ _ (opener-passes _ _ (none e) (opener c.before) (omega arith)) (s.pre.1.lengths_are ∙ lengths-same _ _ (none e))
 
 pub take-byte-spec : {M : Type 1} → statement M
 take-byte-spec =

@@ -11,7 +11,7 @@ use Rattle.rules.specs.Job.{outside}
 use Rattle.fasta.specs.Lines.{byte_at}
 use Rattle.fasta.specs.Sequences.{opened}
 use Rattle.fasta.specs.Refusals.{held}
-use Rattle.fasta.proofs.alignment.Faults.{before-is, byte-is, wide_is, state-passes}
+use Rattle.fasta.proofs.alignment.Faults.{before-is, byte_is, wide_is, state-passes}
 use Rattle.fasta.proofs.alignment.Counted.{taken-fault, taken-passed, counted-length, held-is, one_more}
 use Rattle.fasta.proofs.alignment.take_state.Statement.{statement}
 use Rattle.fasta.proofs.alignment.take_state.Tie as tie
@@ -27,7 +27,7 @@ begun-some : (c : tie.After-outside) → 1 ≤ (entry c).args.begun
 begun-some c = omega (arith, c.before.before.if1.false)
 
 some : (c : tie.After-outside) → 1 ≤ opened (entry c).args.text.now (entry c).args.i
-some c = omega (arith, begun-some c, (entry c).requires.1.begun-is)
+some c = omega (arith, begun-some c, (entry c).requires.1.begun_is)
 
 within : (c : tie.After-outside) → (entry c).args.begun - 1 < length (entry c).args.lengths.now
 within c = let counted = (entry c).requires.1 in omega (arith, begun-some c, counted.few, counted-length _ _ counted)
@@ -38,7 +38,7 @@ good c = sym c.before.before.outside.ensures ∙ c.if2.false
 returns : tie.Need-returns
 returns c =
     let s = c.before.before.before in
-    taken-fault _ _ (before-is s.args.text.now s.args.i s.requires.0 (sym s.requires.1.begun-is ∙ c.if1.true)) refl s.requires.1.lengths-are
+    taken-fault _ _ (before-is s.args.text.now s.args.i s.requires.0 (sym s.requires.1.begun_is ∙ c.if1.true)) refl s.requires.1.lengths_are
 
 cast-outside : tie.Need-overflow-cast-outside
 cast-outside c = Fits-8_64 (c.shared-slice-known2.given _)
@@ -50,7 +50,7 @@ returns-2 : tie.Need-returns-2
 returns-2 c =
     let o = c.before.before in
     let s = entry o in
-    taken-fault _ _ (byte-is _ _ s.pre.0 (some o) (sym o.outside.ensures ∙ c.if2.true)) refl s.pre.1.lengths-are
+    taken-fault _ _ (byte_is _ _ s.pre.0 (some o) (sym o.outside.ensures ∙ c.if2.true)) refl s.pre.1.lengths_are
 
 returns-3 : tie.Need-returns-3
 returns-3 c =
@@ -58,7 +58,7 @@ returns-3 c =
     let o = e.before.before in
     let s = entry o in
     let full : 64 ≤ held s.args.text.now s.args.i = omega (arith, held-is _ _ s.pre.1 (begun-some o), leb-true 64 (count o) c.if3.true) in
-    taken-fault _ _ (wide_is _ _ s.pre.0 (some o) (good e) full) refl s.pre.1.lengths-are
+    taken-fault _ _ (wide_is _ _ s.pre.0 (some o) (good e) full) refl s.pre.1.lengths_are
 
 slice-read-lengths : tie.Need-slice-read-lengths
 slice-read-lengths c = within c.before.before.before.before

@@ -41,10 +41,10 @@ check-layout-requires c κs =
     record {
       head = w.before.if1.false;
       rows_are = w.word_at.ensures.is;
-      some-rows = n.at_least;
-      few-rows = n.at_most;
+      some_rows = n.at_least;
+      few_rows = n.at_most;
       width_is = w2.word-at2.ensures.is;
-      some-width = m.at_least;
+      some_width = m.at_least;
       small_width = m.at_most;
     }
 

@@ -8,7 +8,7 @@ use lib.ListN.{get_or}
 use mir.Facts.{Fits-8_64}
 use borrow.Author.Count.{below_none, below_more}
 use Rattle.graph.proofs.Below.{first-is}
-use Rattle.rules.specs.Job.{Bytes, outside, badState}
+use Rattle.rules.specs.Job.{Bytes, outside, bad_state}
 use Rattle.job.proofs.contents.bad_state.Statement.{statement}
 use Rattle.job.proofs.contents.bad_state.Tie as tie
 
@@ -50,7 +50,7 @@ rows-again : tie.Need-rows-preserved invariant-loop decreases-loop invariant-row
 rows-again c = (omega arith, omega arith, c.before.loop.invariant.3)
 
 returns : tie.Need-returns invariant-loop decreases-loop invariant-rows decreases-rows
-unfolding badState
+unfolding bad_state
 returns c =
     let s = c.before.before.before in
     let r = c.before.rows in
@@ -58,7 +58,7 @@ returns c =
     rw (← s.requires.0, ← s.requires.1) (sym (first-is _ _ _ (omega arith) r.invariant.2 (λ h. absurd (omega arith))))
 
 returns-2 : tie.Need-returns-2 invariant-loop decreases-loop invariant-rows decreases-rows
-unfolding badState
+unfolding bad_state
 returns-2 c =
     let s = c.before.before.before.before.before.before.before.before in
     let l = c.before.before.before.before.loop in

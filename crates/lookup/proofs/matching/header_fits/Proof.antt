@@ -38,10 +38,10 @@ returns-3 c =
     let a = w.before.before.before.args in
     rw (← w.word_at.ensures.is, ← w2.word-at2.ensures.is)
     (no_header a.m a.block.now w.word_at.result w2.word-at2.result
-    (λ h. ⊎_elim (λ o. o.taken (w3.word-at3.ensures.is ∙ h.width-field))
-    (⊎_elim (λ o. differs o.1.ensures.is o.2.taken h.records-field)
-    (⊎_elim (λ o. differs o.3.ensures.is o.4.taken h.rows-field)
-    (λ o. differs o.5.ensures.is o.6.taken h.links-field)))
+    (λ h. ⊎_elim (λ o. o.taken (w3.word-at3.ensures.is ∙ h.width_field))
+    (⊎_elim (λ o. differs o.1.ensures.is o.2.taken h.records_field)
+    (⊎_elim (λ o. differs o.3.ensures.is o.4.taken h.rows_field)
+    (λ o. differs o.5.ensures.is o.6.taken h.links_field)))
     c.if5.branch))
 
 returns-4 : tie.Need-returns-4

@@ -2,7 +2,7 @@
 use mathlib.Core.Logic.{⊎_elim}
 use Prim.Native.Nat.{◌-◌, ◌<◌}
 use native.Mathlib.Omega.{arith}
-use Rattle.medians.proofs.guesses.Compared.{Compared, none-compared, all-compared, agree, differ}
+use Rattle.medians.proofs.guesses.Compared.{Compared, none_compared, all_compared, agree, differ}
 use Rattle.medians.proofs.guesses.alike.Statement.{statement}
 use Rattle.medians.proofs.guesses.alike.Tie as tie
 
@@ -13,7 +13,7 @@ abbrev decreases-loop : tie.decreases-loop
 decreases-loop a b others₀ c₀ others c = 64 - c
 
 loop-holds : tie.Need-loop-init invariant-loop decreases-loop
-loop-holds c = none-compared _ _
+loop-holds c = none_compared _ _
 
 loop-again : tie.Need-loop-preserved invariant-loop decreases-loop
 loop-again c =
@@ -28,7 +28,7 @@ returns : tie.Need-returns invariant-loop decreases-loop
 returns c =
     let l = c.before in
     let p = l.before.requires in
-    all-compared _ _ p.0 p.1 l.loop.c _ (omega arith) l.loop.invariant
+    all_compared _ _ p.0 p.1 l.loop.c _ (omega arith) l.loop.invariant
 
 pub alike_spec : {M : Type 1} → statement M
 alike_spec =

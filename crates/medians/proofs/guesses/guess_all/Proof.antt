@@ -3,32 +3,32 @@ use mathlib.Core.Path.{◌≡◌}
 use Prim.Native.Nat.{◌-◌, ◌≤◌}
 use native.Mathlib.Omega.{arith}
 use borrow.Author.Rules.{rules}
-use Rattle.medians.specs.Guesses.{guessesOf}
-use Rattle.medians.proofs.guesses.Place.{slot-few}
-use Rattle.medians.proofs.guesses.Guesses.{guesses-none, guesses-more}
+use Rattle.medians.specs.Guesses.{guesses_of}
+use Rattle.medians.proofs.guesses.Place.{slot_few}
+use Rattle.medians.proofs.guesses.Guesses.{guesses_none, guesses_more}
 use Rattle.medians.proofs.guesses.guess_all.Statement.{statement}
 use Rattle.medians.proofs.guesses.guess_all.Tie as tie
 
 abbrev invariant-loop : tie.invariant-loop
-invariant-loop states made guesses₀ i₀ guesses i = (i ≤ made) × (guesses ≡ guessesOf states i)
+invariant-loop states made guesses₀ i₀ guesses i = (i ≤ made) × (guesses ≡ guesses_of states i)
 
 abbrev decreases-loop : tie.decreases-loop
 decreases-loop states made guesses₀ i₀ guesses i = made - i
 
 loop-holds : tie.Need-loop-init invariant-loop decreases-loop
-loop-holds c = (omega arith, guesses-none _)
+loop-holds c = (omega arith, guesses_none _)
 
 mul-guesses : tie.Need-overflow-mul-guesses invariant-loop decreases-loop
-mul-guesses c = omega (arith, c.slot.ensures, slot-few c.before.before.row-at.result)
+mul-guesses c = omega (arith, c.slot.ensures, slot_few c.before.before.row-at.result)
 
 array-write-guesses : tie.Need-array-write-guesses invariant-loop decreases-loop
-array-write-guesses c = rw c.slot.ensures (slot-few _)
+array-write-guesses c = rw c.slot.ensures (slot_few _)
 
 loop-again : tie.Need-loop-preserved invariant-loop decreases-loop
 loop-again c =
     let l = c.before.before.before.before in
     let row = c.before.before.row-at.ensures in
-    (omega arith, rw (c.slot.ensures, row, l.loop.invariant.1) (guesses-more _ l.loop.i))
+    (omega arith, rw (c.slot.ensures, row, l.loop.invariant.1) (guesses_more _ l.loop.i))
 
 returns : tie.Need-returns invariant-loop decreases-loop
 returns c =

@@ -3,7 +3,7 @@ use mathlib.Core.Path.{sym, ◌∙◌}
 use native.Mathlib.Omega.{arith}
 use borrow.Author.Rules.{rules}
 use Rattle.medians.proofs.search.Considering.{median-wide}
-use Rattle.medians.proofs.visit.Visiting.{still-inside, is-median, visited-alike, visited-all}
+use Rattle.medians.proofs.visit.Visiting.{still_inside, is-median, visited_alike, visited_all}
 use Rattle.medians.proofs.visit.visit.Statement.{statement}
 use Rattle.medians.proofs.visit.visit.Tie as tie
 
@@ -33,7 +33,7 @@ returns : tie.Need-returns
 returns c =
     let one = c.before.before.before.before.before.before.before.before in
     let m = one.before.before.before.before.before.before.before in
-    (one.consider.ensures.0, visited-alike _ _ m.medians.ensures _ m.before.before.before.before.before.requires.1 c.before.alike.ensures c.if1.true one.consider.ensures.1)
+    (one.consider.ensures.0, visited_alike _ _ m.medians.ensures _ m.before.before.before.before.before.requires.1 c.before.alike.ensures c.if1.true one.consider.ensures.1)
 
 consider-requires-2 : tie.Need-consider-requires-2
 consider-requires-2 c κs =
@@ -41,7 +41,7 @@ consider-requires-2 c κs =
     let m = one.before.before.before.before.before.before.before in
     let p = m.before.before.before.before.before.requires in
     let s = one.consider.ensures in
-    (p.0, still-inside p.1 s.1.made-stays s.1.room, is-median _ _ m.medians.ensures 1 (omega arith), s.1.size ∙ p.2, s.0)
+    (p.0, still_inside p.1 s.1.made_stays s.1.room, is-median _ _ m.medians.ensures 1 (omega arith), s.1.size ∙ p.2, s.0)
 
 consider-requires-3 : tie.Need-consider-requires-3
 consider-requires-3 c κs =
@@ -51,7 +51,7 @@ consider-requires-3 c κs =
     let p = m.before.before.before.before.before.requires in
     let s = one.consider.ensures.1 in
     let s' = two.consider2.ensures in
-    (p.0, still-inside p.1 (s'.1.made-stays ∙ s.made-stays) s'.1.room, is-median _ _ m.medians.ensures 2 (omega arith), s'.1.size ∙ s.size ∙ p.2, s'.0)
+    (p.0, still_inside p.1 (s'.1.made_stays ∙ s.made_stays) s'.1.room, is-median _ _ m.medians.ensures 2 (omega arith), s'.1.size ∙ s.size ∙ p.2, s'.0)
 
 same-length-3 : tie.Need-same-length-3
 same-length-3 c =
@@ -71,7 +71,7 @@ returns-2 c =
     let two = three.before.before.before.before.before.before.before.before in
     let one = two.before.before.before.before.before.before.before.before.before.before.before.before in (
       three.consider3.ensures.0,
-      visited-all _ _ one.before.before.before.before.before.before.before.medians.ensures _ one.consider.ensures.1 two.consider2.ensures.1 three.consider3.ensures.1,
+      visited_all _ _ one.before.before.before.before.before.before.before.medians.ensures _ one.consider.ensures.1 two.consider2.ensures.1 three.consider3.ensures.1,
     )
 
 pub visit-spec : {M : Type 1} → statement M

@@ -19,7 +19,7 @@ abbrev decreases-loop : tie.decreases-loop
 decreases-loop digits value₀ i₀ value i = length digits - i
 
 returns : tie.Need-returns invariant-loop decreases-loop
-returns c = other-is _ (λ w. omega (arith, w.some-digit))
+returns c = other-is _ (λ w. omega (arith, w.some_digit))
 
 loop-holds : tie.Need-loop-init invariant-loop decreases-loop
 loop-holds c = (omega arith, omega arith, value_none _, below_none _)
@@ -57,7 +57,7 @@ returns-5 c =
     let xs = c.before.before.before.args.digits.now in
     let e : l.i ≡ length xs = omega arith in
     let v : l.value ≡ value_of xs (length xs) = l.invariant.2 ∙ ap (value_of xs) e in
-    number_is xs v (record { some-digit = omega arith; digits = λ i h. l.invariant.3 i (omega arith); small = omega arith })
+    number_is xs v (record { some_digit = omega arith; digits = λ i h. l.invariant.3 i (omega arith); small = omega arith })
 
 pub read-number-spec : {M : Type 1} → statement M
 read-number-spec =

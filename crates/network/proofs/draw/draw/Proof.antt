@@ -5,7 +5,7 @@ use borrow.Author.Rules.{rules}
 use native.Mathlib.Omega.{arith}
 use Rattle.rules.proofs.Job.{passed_is}
 use Rattle.network.proofs.draw.Writable.{ready}
-use Rattle.network.proofs.draw.Steps.{sketch-refused, used-short, sketch-network}
+use Rattle.network.proofs.draw.Steps.{sketch_refused, used-short, sketch_network}
 use Rattle.network.proofs.draw.draw.Statement.{statement}
 use Rattle.network.proofs.draw.draw.Tie as tie
 
@@ -39,7 +39,7 @@ returns c =
     record {
       end = _;
       ran = r;
-      wrote = rw c.nothing.ensures (sketch-refused (entry t).requires.0 r _ (λ z. c.before.if1.true (t.tell.ensures.number_is ∙ z)));
+      wrote = rw c.nothing.ensures (sketch_refused (entry t).requires.0 r _ (λ z. c.before.if1.true (t.tell.ensures.number_is ∙ z)));
     }
 
 header-of-requires : tie.Need-header-of-requires
@@ -66,7 +66,7 @@ returns-2 c =
     record {
       end = _;
       ran = r;
-      wrote = sketch-network (entry (told e)).requires.0 r (sym (told e).tell.ensures.number_is ∙ e.if1.left)
+      wrote = sketch_network (entry (told e)).requires.0 r (sym (told e).tell.ensures.number_is ∙ e.if1.left)
           w.before.before.before.before.before.before.header_of.ensures.width_is w.write-front.ensures;
     }
 

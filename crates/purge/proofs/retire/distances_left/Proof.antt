@@ -2,14 +2,14 @@
 use Prim.Native.Nat.{◌-◌}
 use native.Mathlib.Omega.{arith}
 use Rattle.distances.specs.Area.{CellsWritten}
-use Rattle.distances.proofs.Area.{Passed, byLine, all-passed}
+use Rattle.distances.proofs.Area.{Passed, by_line, all-passed}
 use Rattle.purge.specs.Left.{Among, squeezed}
 use Rattle.purge.proofs.retire.Squeezed.{line-squeezed}
 use Rattle.purge.proofs.retire.distances_left.Statement.{statement}
 use Rattle.purge.proofs.retire.distances_left.Tie as tie
 
 abbrev invariant-loop : tie.invariant-loop
-invariant-loop area₀ kept count t a₀ area a = CellsWritten (Passed byLine (Among t) a) (squeezed kept count area₀) area₀ area
+invariant-loop area₀ kept count t a₀ area a = CellsWritten (Passed by_line (Among t) a) (squeezed kept count area₀) area₀ area
 
 abbrev decreases-loop : tie.decreases-loop
 decreases-loop area₀ kept count t a₀ area a = t - a

@@ -7,14 +7,14 @@ use native.Mathlib.Omega.{arith}
 use borrow.Author.Tests.{ltb-true, ltb-false}
 use lib.ListN.{get_or}
 use Rattle.distances.specs.Area.{CellsWritten, Line}
-use Rattle.distances.proofs.Area.{Passed, byColumn, all-passed}
+use Rattle.distances.proofs.Area.{Passed, by_column, all-passed}
 use Rattle.purge.specs.Left.{squeezed}
 use Rattle.purge.proofs.retire.Squeezed.{squeezed-stays, squeezed-none, cell-squeezed}
 use Rattle.purge.proofs.retire.line_left.Statement.{statement}
 use Rattle.purge.proofs.retire.line_left.Tie as tie
 
 abbrev invariant-loop : tie.invariant-loop
-invariant-loop area₀ kept count t a b₀ area b = CellsWritten (Passed byColumn (Line a t) b) (squeezed kept count area₀) area₀ area
+invariant-loop area₀ kept count t a b₀ area b = CellsWritten (Passed by_column (Line a t) b) (squeezed kept count area₀) area₀ area
 
 abbrev decreases-loop : tie.decreases-loop
 decreases-loop area₀ kept count t a b₀ area b = t - b

@@ -3,13 +3,13 @@ use mathlib.Core.Path.{◌≡◌, refl, sym, ◌∙◌}
 use mathlib.Core.Bool.{true, false}
 use Prim.Native.Nat.{◌-◌, ◌≤◌, ◌<◌}
 use native.Mathlib.Omega.{arith}
-use Rattle.result.specs.Lines.{linksBefore}
+use Rattle.result.specs.Lines.{links_before}
 use Rattle.result.proofs.ordered.Lines.{higher, before_more}
 use Rattle.result.proofs.ordered.next_in_line.Statement.{statement}
 use Rattle.result.proofs.ordered.next_in_line.Tie as tie
 
 abbrev invariant-loop : tie.invariant-loop
-invariant-loop area t i from j₀ j = (i < j) × (j ≤ t) × (linksBefore area t i j ≡ linksBefore area t i from)
+invariant-loop area t i from j₀ j = (i < j) × (j ≤ t) × (links_before area t i j ≡ links_before area t i from)
 
 abbrev decreases-loop : tie.decreases-loop
 decreases-loop area t i from j₀ j = t - j

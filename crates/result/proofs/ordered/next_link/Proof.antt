@@ -3,13 +3,13 @@ use mathlib.Core.Path.{◌≡◌, refl, sym, ◌∙◌}
 use Prim.Native.Nat.{◌+◌, ◌-◌, ◌<◌}
 use native.Mathlib.Omega.{arith}
 use borrow.Author.Rules.{rules}
-use Rattle.result.specs.Lines.{linksBefore, Reached}
+use Rattle.result.specs.Lines.{links_before, Reached}
 use Rattle.result.proofs.ordered.Lines.{Behind, behind, line-end, line-follows, link-at}
 use Rattle.result.proofs.ordered.next_link.Statement.{statement}
 use Rattle.result.proofs.ordered.next_link.Tie as tie
 
 abbrev invariant-loop : tie.invariant-loop
-invariant-loop area t i₀ j₀ i j = (i < t) × Reached area t (linksBefore area t i₀ j₀) i j
+invariant-loop area t i₀ j₀ i j = (i < t) × Reached area t (links_before area t i₀ j₀) i j
 
 abbrev decreases-loop : tie.decreases-loop
 decreases-loop area t i₀ j₀ i j = t - i
@@ -22,7 +22,7 @@ abbrev entry : tie.At-loop invariant-loop decreases-loop → tie.Start invariant
 entry l = l.before.before.before.before.before
 
 at-end : (c : tie.In-loop invariant-loop decreases-loop) → let l = c.before in let a = (entry l).args in
-    linksBefore a.area.now a.t l.loop.i a.t ≡ linksBefore a.area.now a.t a.last.low l.before.next-in-line.result
+    links_before a.area.now a.t l.loop.i a.t ≡ links_before a.area.now a.t a.last.low l.before.next-in-line.result
 at-end c = let l = c.before in let e : l.loop.j ≡ (entry l).args.t = omega arith in rw e at l.loop.invariant.1.behind
 
 follows : (c : tie.In-loop invariant-loop decreases-loop) → c.before.loop.i + 1 < (entry c.before).args.t
@@ -72,7 +72,7 @@ returns c =
     let at = sym (link-at a.area.now a.t l.loop.i l.loop.j l.loop.invariant.0 inside (l.loop.invariant.1.linked inside)) in
     record {
       is = λ k h e.
-          let p : linksBefore a.area.now a.t l.loop.i l.loop.j ≡ k =
+          let p : links_before a.area.now a.t l.loop.i l.loop.j ≡ k =
           l.loop.invariant.1.behind ∙ l.before.next-in-line.ensures.behind ∙ sym (behind _ _ a.last k h e).place in
           rw p at at;
     }

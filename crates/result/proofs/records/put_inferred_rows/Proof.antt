@@ -4,14 +4,14 @@ use Prim.Native.Nat.{◌-◌, ◌≤◌}
 use native.Mathlib.Omega.{arith}
 use lib.ListN.{length, length-take}
 use Rattle.memory.specs.Placed.{placed}
-use Rattle.result.specs.Records.{inferredRows}
+use Rattle.result.specs.Records.{inferred_rows}
 use Rattle.result.proofs.records.RecordBytes.{row_room, rows_none, rows_more}
 use Rattle.result.proofs.records.put_inferred_rows.Statement.{statement}
 use Rattle.result.proofs.records.put_inferred_rows.Tie as tie
 
 abbrev invariant-loop : tie.invariant-loop
 invariant-loop states m t s out₀ at k₀ out k =
-    (s ≤ k) × (k ≤ t) × (length out ≡ length out₀) × (out ≡ placed out₀ at (inferredRows m states s (k - s)))
+    (s ≤ k) × (k ≤ t) × (length out ≡ length out₀) × (out ≡ placed out₀ at (inferred_rows m states s (k - s)))
 
 abbrev decreases-loop : tie.decreases-loop
 decreases-loop states m t s out₀ at k₀ out k = t - k

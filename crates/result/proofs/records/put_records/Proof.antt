@@ -5,13 +5,13 @@ use Prim.Native.Nat.{◌-◌, ◌≤◌}
 use native.Mathlib.Omega.{arith}
 use lib.ListN.{length}
 use Rattle.memory.specs.Placed.{placed}
-use Rattle.result.specs.Records.{recordsOf}
+use Rattle.result.specs.Records.{records_of}
 use Rattle.result.proofs.records.RecordBytes.{records-none, records-more}
 use Rattle.result.proofs.records.put_records.Statement.{statement}
 use Rattle.result.proofs.records.put_records.Tie as tie
 
 abbrev invariant-loop : tie.invariant-loop
-invariant-loop t s out₀ at kinds k₀ out k = (k ≤ t) × (length out ≡ length out₀) × (out ≡ placed out₀ at (recordsOf kinds k s))
+invariant-loop t s out₀ at kinds k₀ out k = (k ≤ t) × (length out ≡ length out₀) × (out ≡ placed out₀ at (records_of kinds k s))
 
 abbrev decreases-loop : tie.decreases-loop
 decreases-loop t s out₀ at kinds k₀ out k = t - k

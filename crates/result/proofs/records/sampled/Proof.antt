@@ -9,12 +9,12 @@ use Rattle.graph.specs.Below.{sum}
 use Rattle.graph.proofs.Below.{sum_more}
 use Rattle.rules.specs.Types.{inferred}
 use Rattle.rules.specs.declared.Origin.{Origin}
-use Rattle.result.specs.Records.{kind_at, sampledOf}
+use Rattle.result.specs.Records.{kind_at, sampled_of}
 use Rattle.result.proofs.records.sampled.Statement.{statement}
 use Rattle.result.proofs.records.sampled.Tie as tie
 
 abbrev invariant-loop : tie.invariant-loop
-invariant-loop t kinds sampled₀ k₀ sampled k = (k ≤ t) × (sampled ≤ k) × (sampled ≡ sampledOf kinds k)
+invariant-loop t kinds sampled₀ k₀ sampled k = (k ≤ t) × (sampled ≤ k) × (sampled ≡ sampled_of kinds k)
 
 abbrev decreases-loop : tie.decreases-loop
 decreases-loop t kinds sampled₀ k₀ sampled k = t - k

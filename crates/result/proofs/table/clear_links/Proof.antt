@@ -26,12 +26,12 @@ use Rattle.memory.proofs.Placed.{placed-whole, length-placed}
 use Rattle.rules.specs.declared.Link.{Link}
 use Rattle.rules.specs.contracts.Link as T
 use Rattle.result.specs.Order.{no_link}
-use Rattle.result.proofs.table.Lent.{Open, opens-table, closes-table, stores}
-use Rattle.result.proofs.table.Record.{mach, zeros-fit, typed, made}
+use Rattle.result.proofs.table.Lent.{Open, opens-table, closes_table, stores}
+use Rattle.result.proofs.table.Record.{mach, zeros_fit, typed, made}
 use Rattle.byhand.proofs.Lend.{Passed, entry, value, held}
-use Rattle.byhand.proofs.Locals.{Cells, enters, frees-locals}
-use Rattle.byhand.proofs.Loop.{local, sets, goes_on, runs-out, adds_one, Turns, counts}
-use Rattle.byhand.proofs.Meets.{Params, lent-param, Walk, Start, ends_with, meets}
+use Rattle.byhand.proofs.Locals.{Cells, enters, frees_locals}
+use Rattle.byhand.proofs.Loop.{local, sets, goes_on, runs_out, adds_one, Turns, counts}
+use Rattle.byhand.proofs.Meets.{Params, lent_param, Walk, Start, ends_with, meets}
 use Rattle.byhand.proofs.Body.{Blocks, env}
 use Rattle.result.specs.contracts.table.clear_links.Key.{name as #table·clear}
 use Rattle.result.specs.contracts.table.clear_links as clear'
@@ -40,7 +40,7 @@ use Rattle.result.proofs.table.clear_links.Code as code
 use Rattle.result.proofs.table.clear_links.Code.Mir.{turn-1 as turn}
 
 abbrev params : Params clear'.ended
-params = (lent-param 0 tt T.the_row, tt)
+params = (lent_param 0 tt T.the_row, tt)
 
 module _ {M : Type 1} {𝓤 : Ura M} (𝓛 : Logic 𝓤) (mem : Memory → SProp 𝓤) (run : Routine → Fun 𝓤) (𝓣 : Tables 𝓤 𝓛.H) where
   open 𝓛 use {H}
@@ -100,28 +100,28 @@ module _ {M : Type 1} {𝓤 : Ura M} (𝓛 : Logic 𝓤) (mem : Memory → SProp
           -- links[i] = none
           sets ! (bin ! (local ! 4 refl) (lit ! tt) (record { fits = scaled })) (store ! 5 refl (tt, record { fits = scaled })) $
           sets ! (bin ! (load ! (from ! (fld ! refl (stop !))) (look_in ! 2 (sub ! 0 refl (whole !)))) (local ! 5 refl) tt) (init ! 7 refl (tt, tt)) $
-          stores ! links ls room i (omega (arith, many)) no_link (sym (get_or-replicate n i no_link no_link small)) zeros-fit
+          stores ! links ls room i (omega (arith, many)) no_link (sym (get_or-replicate n i no_link no_link small)) zeros_fit
           (λ _ _ _ _. local ! 6 refl) (λ _ _ _ _. from ! (hop ! (look ! 10 refl) (stop !))) $
           -- i += 1
           adds_one ! 4 refl tt (omega arith) $ forget ! 5 refl $ forget ! 7 refl $ k
 
       ends : (X : SProp 𝓤) → Turns 𝓛 𝓣 En turn Post (At n) X
       ends X =
-          closes-table ! links ls room tt n (sym many) fits $
+          closes_table ! links ls room tt n (sym many) fits $
           sets ! (of_opd ! (load ! (from ! (fld ! refl (stop !))) (look_in ! 2 (sub ! 1 refl (whole !))))) (init ! 5 refl (tt, record { fits = fits.0 })) $
-          runs-out ! X Post 6 1 refl refl (tt, tt) (local ! 4 refl) (local ! 5 refl) (omega arith) $ forget ! 5 refl $
-          frees-locals ! 1 En (values n) refl $ exits
+          runs_out ! X Post 6 1 refl refl (tt, tt) (local ! 4 refl) (local ! 5 refl) (omega arith) $ forget ! 5 refl $
+          frees_locals ! 1 En (values n) refl $ exits
 
     walk : Sq 𝓛 (Start 𝓛 clear'.ended y.0) (prop (WpFn 𝓤 H 𝓣.C 𝓣.Λ code.function (ClearC.args y) Post))
     walk =
         enters ! 𝓣.C 𝓣.Λ code.function (ClearC.args y) Post ((tt, (tt, (record { fits = fits.0 }, tt))), tt) (λ bs.
         -- [the token; what the table owns; the locals]
-        move ! (1 ∷ 0 ∷ []) $ join ! $ opens-table ! links ls tt $ sets ! (made !) (init ! 3 refl (typed {𝓛 = 𝓛} no_link (mach no_link) zeros-fit)) $
+        move ! (1 ∷ 0 ∷ []) $ join ! $ opens-table ! links ls tt $ sets ! (made !) (init ! 3 refl (typed {𝓛 = 𝓛} no_link (mach no_link) zeros_fit)) $
         sets ! (of_opd ! (lit ! tt)) (init ! 4 refl (tt, record { fits = omega arith })) $ counts 𝓛 𝓣 (En bs) turn Post (At bs) n (more bs) (ends bs))
 
-pub clear-links-spec : {M : Type 1} → stated.statement M
+pub clear-links_spec : {M : Type 1} → stated.statement M
 unfolding code.routine tables_of
-clear-links-spec 𝓤 𝓛 𝓜 𝓡 =
+clear-links_spec 𝓤 𝓛 𝓜 𝓡 =
     meets 𝓛 𝓜 𝓡 clear'.ended params (clear'.clauses 𝓛 𝓜.mem 𝓡.run) code.env #table·clear code.function (code.unfolded 𝓤 𝓛.H 𝓜 𝓡)
     (λ κs qs bounds a g are. drop ! $ walk 𝓛 𝓜.mem 𝓡.run (tables_of 𝓤 𝓛.H 𝓜 (tables 𝓤 𝓛.H 𝓜 𝓡 code.env))
     (record { lft = κs.0; share = qs.0; ref = a.0; fits = are.0.0.1.0 }) are.0.0.1)

@@ -32,17 +32,17 @@ use Rattle.memory.proofs.Placed.{length-placed}
 use Rattle.rules.specs.Links.{link_at}
 use Rattle.rules.specs.declared.Link.{Link}
 use Rattle.rules.specs.contracts.Link as T
-use Rattle.purge.specs.Network.{linksIn}
+use Rattle.purge.specs.Network.{links_in}
 use Rattle.result.specs.Order.{no_link, HasNext, Next}
 use Rattle.result.specs.Table.{Listable}
-use Rattle.result.proofs.table.Lent.{Open, opens-table, closes-table, stores}
-use Rattle.result.proofs.table.Record.{mach, tells, Fits, zeros-fit, typed, has, made}
+use Rattle.result.proofs.table.Lent.{Open, opens-table, closes_table, stores}
+use Rattle.result.proofs.table.Record.{mach, tells, Fits, zeros_fit, typed, has, made}
 use Rattle.byhand.proofs.Lend.{Passed, entry, value, held}
-use Rattle.byhand.proofs.Locals.{Cells, enters, frees-locals}
-use Rattle.byhand.proofs.Loop.{Holds, local, sets, goes_on, runs-out, adds_one, Turns, counts}
-use Rattle.byhand.proofs.Meets.{Params, number-param, shared-param, lent-param, Walk, Start, ends_with, meets}
+use Rattle.byhand.proofs.Locals.{Cells, enters, frees_locals}
+use Rattle.byhand.proofs.Loop.{Holds, local, sets, goes_on, runs_out, adds_one, Turns, counts}
+use Rattle.byhand.proofs.Meets.{Params, number_param, shared_param, lent_param, Walk, Start, ends_with, meets}
 use Rattle.byhand.proofs.Told.{Told, calls-told}
-use Rattle.byhand.proofs.Body.{Blocks, env, whole-arg, number}
+use Rattle.byhand.proofs.Body.{Blocks, env, whole_arg, number}
 use Rattle.result.specs.contracts.ordered.next_link as next'
 use Rattle.result.proofs.ordered.next_link.Symbol as next-def
 use Rattle.result.proofs.ordered.next_link.Met as next-thm
@@ -53,7 +53,7 @@ use Rattle.result.proofs.table.list_links.Code as code
 use Rattle.result.proofs.table.list_links.Code.Mir.{turn-1 as turn}
 
 abbrev params : Params list'.ended
-params = (shared-param 0 tt u16, (number-param, (number-param, (lent-param 1 tt T.the_row, tt))))
+params = (shared_param 0 tt u16, (number_param, (number_param, (lent_param 1 tt T.the_row, tt))))
 
 module _ {M : Type 1} {𝓤 : Ura M} (𝓛 : Logic 𝓤) (mem : Memory → SProp 𝓤) (run : Routine → Fun 𝓤) where
   open 𝓛 use {H}
@@ -65,7 +65,7 @@ module _ {M : Type 1} {𝓤 : Ura M} (𝓛 : Logic 𝓤) (mem : Memory → SProp
     module _ (area : Passed u16) (t n : ℕ) (links : Passed T.the_row) (t-fits : t < 2 ^ 64) (n-fits : n < 2 ^ 64)
         (fits : Room T.the_row (length (entry links))) (can : Listable (entry area) t n (entry links)) where
       abbrev ls : List Link
-      ls = linksIn t (entry area)
+      ls = links_in t (entry area)
 
       many : n ≡ length ls
       many = can.counted
@@ -139,7 +139,7 @@ module _ {M : Type 1} {𝓤 : Ura M} (𝓛 : Logic 𝓤) (mem : Memory → SProp
             calls-told 𝓛 (fm_of 𝓤 H 𝓛.laws 𝓣) next'.ended (next'.clauses 𝓛 mem run) known (area.lft, tt) (area.share, tt) tt
             (area.ref, (t, (last_at i, tt))) (value area ∷ [], (vint w64 t ∷ [], (mach (last_at i) ∷ [], tt))) tt ! (λ r _. Next ls (last_at i) r)
             (fact_i 𝓤 _ (emp 𝓤) (can.cells (omega arith), can.few, next)) (λ _ _. id⊢ 𝓤 _)
-            (whole-arg ! 4 refl (whole-arg ! 5 refl (whole-arg ! 8 refl (no_more !)))) (λ w r us comes is.
+            (whole_arg ! 4 refl (whole_arg ! 5 refl (whole_arg ! 8 refl (no_more !)))) (λ w r us comes is.
             let e : r ≡ link_at ls i = comes.is i within refl in
             let one : w ∷ [] ≡ mach r ∷ [] = tells r (w ∷ []) is in
             let fit : Fits r = subst (Is T.the_row r) one is in
@@ -155,10 +155,10 @@ module _ {M : Type 1} {𝓤 : Ura M} (𝓛 : Logic 𝓤) (mem : Memory → SProp
 
         ends : (X : SProp 𝓤) → Turns 𝓛 𝓣 En turn Post (At n) X
         ends X =
-            move ! (1 ∷ []) $ closes-table ! links ls room tt n many fits $
+            move ! (1 ∷ []) $ closes_table ! links ls room tt n many fits $
             -- [the table; what the last link owns; the token; area; the locals]
-            runs-out ! X Post 11 4 refl refl (tt, tt) (local ! 10 refl) (local ! 7 refl) (omega arith) $
-            frees-locals ! 4 En (values n (last_at n)) refl $ keep ! (0 ∷ 2 ∷ []) $ exits
+            runs_out ! X Post 11 4 refl refl (tt, tt) (local ! 10 refl) (local ! 7 refl) (omega arith) $
+            frees_locals ! 4 En (values n (last_at n)) refl $ keep ! (0 ∷ 2 ∷ []) $ exits
 
       walk : Sq 𝓛 (Start 𝓛 list'.ended y.0) (prop (WpFn 𝓤 H 𝓣.C 𝓣.Λ code.function (ListC.args y) Post))
       walk =
@@ -170,13 +170,13 @@ module _ {M : Type 1} {𝓤 : Ura M} (𝓛 : Logic 𝓤) (mem : Memory → SProp
             ),
           ) (λ bs.
           -- [the tokens of area and links; what area, t, n and links own; the locals]
-          move ! (5 ∷ 1 ∷ []) $ join ! $ opens-table ! links ls tt $ has ! no_link zeros-fit $ move ! (4 ∷ 5 ∷ []) $ drop ! $ drop ! $
-          sets ! (made !) (init ! 9 refl (typed {𝓛 = 𝓛} no_link (mach no_link) zeros-fit)) $ sets ! (of_opd ! (lit ! tt)) (init ! 10 refl (tt, record { fits = omega arith })) $
+          move ! (5 ∷ 1 ∷ []) $ join ! $ opens-table ! links ls tt $ has ! no_link zeros_fit $ move ! (4 ∷ 5 ∷ []) $ drop ! $ drop ! $
+          sets ! (made !) (init ! 9 refl (typed {𝓛 = 𝓛} no_link (mach no_link) zeros_fit)) $ sets ! (of_opd ! (lit ! tt)) (init ! 10 refl (tt, record { fits = omega arith })) $
           counts 𝓛 𝓣 (En bs) turn Post (At bs) n (more bs) (ends bs))
 
-pub list-links-spec : {M : Type 1} → stated.statement M
+pub list-links_spec : {M : Type 1} → stated.statement M
 unfolding code.routine tables_of
-list-links-spec 𝓤 𝓛 𝓜 𝓡 =
+list-links_spec 𝓤 𝓛 𝓜 𝓡 =
     let known = cited 𝓤 𝓛.H _ 𝓜 𝓡 code.env next-def.name next-def.routine code.calls-result::ordered::next-link (next-thm.met 𝓤 𝓛 𝓜 𝓡) in
     meets 𝓛 𝓜 𝓡 list'.ended params (list'.clauses 𝓛 𝓜.mem 𝓡.run) code.env #table·list code.function (code.unfolded 𝓤 𝓛.H 𝓜 𝓡)
     (λ κs qs bounds a g are. heard ! (Listable a.0.now a.1.0 a.1.1.0 a.1.1.1.0.now)

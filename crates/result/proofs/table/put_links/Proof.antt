@@ -30,16 +30,16 @@ use Rattle.memory.specs.Placed.{placed}
 use Rattle.rules.specs.Links.{link_at}
 use Rattle.rules.specs.declared.Link.{Link}
 use Rattle.rules.specs.contracts.Link as T
-use Rattle.result.specs.Table.{linkBytes}
+use Rattle.result.specs.Table.{link_bytes}
 use Rattle.result.proofs.table.Bytes.{after, after_none, after-length, after_more}
 use Rattle.result.proofs.table.Read.{Token, Readable, reads}
 use Rattle.result.proofs.table.Record.{mach, typed, has}
 use Rattle.byhand.proofs.Lend.{Passed, entry, value, named, held, lends, back}
-use Rattle.byhand.proofs.Locals.{Cells, enters, frees-locals}
-use Rattle.byhand.proofs.Loop.{local, sets, goes_on, runs-out, adds_one, Turns, counts}
-use Rattle.byhand.proofs.Meets.{Params, number-param, shared-param, lent-param, Walk, Start, ends_with, meets}
+use Rattle.byhand.proofs.Locals.{Cells, enters, frees_locals}
+use Rattle.byhand.proofs.Loop.{local, sets, goes_on, runs_out, adds_one, Turns, counts}
+use Rattle.byhand.proofs.Meets.{Params, number_param, shared_param, lent_param, Walk, Start, ends_with, meets}
 use Rattle.byhand.proofs.Told.{Told, calls-told, last-list}
-use Rattle.byhand.proofs.Body.{Blocks, env, reslices, unslices, whole-arg, number, lands-nothing}
+use Rattle.byhand.proofs.Body.{Blocks, env, reslices, unslices, whole_arg, number, lands_nothing}
 use Rattle.result.specs.contracts.table.put_link as link'
 use Rattle.result.proofs.table.put_link.Symbol as link-def
 use Rattle.result.proofs.table.put_link.Met as link-thm
@@ -50,7 +50,7 @@ use Rattle.result.proofs.table.put_links.Code as code
 use Rattle.result.proofs.table.put_links.Code.Mir.{turn-1 as turn}
 
 abbrev params : Params put'.ended
-params = (shared-param 0 tt T.the_row, (number-param, (lent-param 1 tt u8, (number-param, tt))))
+params = (shared_param 0 tt T.the_row, (number_param, (lent_param 1 tt u8, (number_param, tt))))
 
 module _ {M : Type 1} {𝓤 : Ura M} (𝓛 : Logic 𝓤) (mem : Memory → SProp 𝓤) (run : Routine → Fun 𝓤) where
   open 𝓛 use {H}
@@ -128,18 +128,18 @@ module _ {M : Type 1} {𝓤 : Ura M} (𝓛 : Logic 𝓤) (mem : Memory → SProp
             -- [ν; what the link, the result, at and k own; what is kept of the result; the token; the table; the locals]
             calls-told 𝓛 (fm_of 𝓤 H 𝓛.laws 𝓣) link'.ended (link'.clauses 𝓛 mem run) known (ν ∷ [], tt) (full_share, tt) tt
             (link i, (named out δ (written i), (at, (i, tt)))) (mach (link i) ∷ [], (value out ∷ [], (vint w64 at ∷ [], (vint w64 i ∷ [], tt)))) tt !
-            (λ _ us. us.1.0 ≡ placed (written i) (at + 6 * i) (linkBytes (link i))) (fact_i 𝓤 _ (emp 𝓤) asked) (λ _ _. id⊢ 𝓤 _)
-            (whole-arg ! 14 refl (whole-arg ! 16 refl (whole-arg ! 8 refl (whole-arg ! 9 refl (no_more !))))) (λ w r us told none.
+            (λ _ us. us.1.0 ≡ placed (written i) (at + 6 * i) (link_bytes (link i))) (fact_i 𝓤 _ (emp 𝓤) asked) (λ _ _. id⊢ 𝓤 _)
+            (whole_arg ! 14 refl (whole_arg ! 16 refl (whole_arg ! 8 refl (whole_arg ! 9 refl (no_more !))))) (λ w r us told none.
             -- [ν; the result at exit; what is kept of it; the token; the table; the locals]
-            lands-nothing ! 12 refl none $ unslices ! 16 refl $ move ! (1 ∷ []) $ last-list ! (λ l. move ! (1 ∷ 2 ∷ 0 ∷ []) $
+            lands_nothing ! 12 refl none $ unslices ! 16 refl $ move ! (1 ∷ []) $ last-list ! (λ l. move ! (1 ∷ 2 ∷ 0 ∷ []) $
             back ! tt out (written i) us.1.0 l $ rewrite ! 0 (held out) (told ∙ after_more (entry links) (entry out) at i (omega (arith, room))) refl $
             -- k += 1
             adds_one ! 8 refl tt (omega arith) $ forget ! 11 refl $ forget ! 12 refl $ forget ! 13 refl $ k))))
 
         ends : (X : SProp 𝓤) → Turns 𝓛 𝓣 En turn Post (At n) X
         ends X =
-            runs-out ! X Post 9 3 refl refl (tt, tt) (local ! 8 refl) (local ! 5 refl) (omega arith) $
-            frees-locals ! 3 En (values n) refl $ keep ! (0 ∷ 1 ∷ []) $ exits
+            runs_out ! X Post 9 3 refl refl (tt, tt) (local ! 8 refl) (local ! 5 refl) (omega arith) $
+            frees_locals ! 3 En (values n) refl $ keep ! (0 ∷ 1 ∷ []) $ exits
 
       walk : Sq 𝓛 (Start 𝓛 put'.ended y.0) (prop (WpFn 𝓤 H 𝓣.C 𝓣.Λ code.function (PutC.args y) Post))
       walk =
@@ -156,9 +156,9 @@ module _ {M : Type 1} {𝓤 : Ura M} (𝓛 : Logic 𝓤) (mem : Memory → SProp
           move ! (0 ∷ 2 ∷ []) $ rewrite ! 0 (held out) (after_none (entry links) (entry out) at) refl $ sets ! (of_opd ! (lit ! tt)) (init ! 8 refl (tt, record { fits = omega arith })) $
           counts 𝓛 𝓣 (En bs) turn Post (At bs) n (more bs) (ends bs))
 
-pub put-links-spec : {M : Type 1} → stated.statement M
+pub put-links_spec : {M : Type 1} → stated.statement M
 unfolding code.routine tables_of
-put-links-spec 𝓤 𝓛 𝓜 𝓡 =
+put-links_spec 𝓤 𝓛 𝓜 𝓡 =
     let known = cited 𝓤 𝓛.H _ 𝓜 𝓡 code.env link-def.name link-def.routine code.calls-result::table::put-link (link-thm.met 𝓤 𝓛 𝓜 𝓡) in
     meets 𝓛 𝓜 𝓡 put'.ended params (put'.clauses 𝓛 𝓜.mem 𝓡.run) code.env #table·put code.function (code.unfolded 𝓤 𝓛.H 𝓜 𝓡)
     (λ κs qs bounds a g are. heard ! ((a.1.0 ≤ length a.0.now) × (a.1.1.1.0 + 6 * a.1.0 ≤ length a.1.1.0.now))

@@ -6,7 +6,7 @@ use lib.Dec.{ltb}
 use lib.ListN.{get_or}
 use borrow.Author.Count.{below_none, below_more}
 use Rattle.types.specs.State.{stored_at}
-use Rattle.types.proofs.State.{length-storedAt, storedAt-state, storedAt-is}
+use Rattle.types.proofs.State.{length-stored_at, stored_at-state, stored_at-is}
 use Rattle.round.proofs.ascending.Compared.{before_same, differ-at}
 use Rattle.round.proofs.ascending.before.Statement.{statement}
 use Rattle.round.proofs.ascending.before.Tie as tie
@@ -26,8 +26,8 @@ returns c =
     let a = b.before.before.args in
     let k = b.loop.c in
     let at : (j : ℕ) → j ≤ k → get_or (stored_at a.rows.now a.i) j 0 ≡ get_or a.rows.now (64 * a.i + j) 0 =
-    λ j h. storedAt-state a.rows.now a.i j (omega arith) in
-    let n = length-storedAt a.rows.now a.i (omega arith) in
+    λ j h. stored_at-state a.rows.now a.i j (omega arith) in
+    let n = length-stored_at a.rows.now a.i (omega arith) in
     sym (differ-at _ a.row.now k (omega arith) (omega arith) (λ j h. at j (omega arith) ∙ b.loop.invariant.1 j h) (λ e. c.before.before.if1.true (sym (at k (omega arith)) ∙ e))
     ∙ ap (λ (x : ℕ). ltb x (get_or a.row.now k 0)) (at k (omega arith)))
 
@@ -38,7 +38,7 @@ returns-2 : tie.Need-returns-2 invariant-loop decreases-loop
 returns-2 c =
     let a = c.before.before.before.args in
     sym (before_same _ _
-    (storedAt-is a.rows.now a.i a.row.now (omega arith) (omega arith) (λ k h. c.before.loop.invariant.1 k (omega arith))))
+    (stored_at-is a.rows.now a.i a.row.now (omega arith) (omega arith) (λ k h. c.before.loop.invariant.1 k (omega arith))))
 
 pub before-spec : {M : Type 1} → statement M
 before-spec =

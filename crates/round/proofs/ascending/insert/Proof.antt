@@ -1,7 +1,7 @@
 -- `ascending::insert` meets its contract: the place is within the rows, those from there on move up, and the row is put there.
 use native.Mathlib.Omega.{arith}
 use borrow.Author.Rules.{rules}
-use Rattle.round.proofs.ascending.Inserted.{within, moved-with-row}
+use Rattle.round.proofs.ascending.Inserted.{within, moved_with_row}
 use Rattle.round.proofs.ascending.insert.Statement.{statement}
 use Rattle.round.proofs.ascending.insert.Tie as tie
 
@@ -20,7 +20,7 @@ returns c =
     let moved = copied.before.before.before.before.before in
     let p = moved.before.before in
     let s = p.before.before.before in
-    moved-with-row s.args.rows.now s.args.row.now _ _ s.args.count p.place-of-row.result s.requires.1 (omega arith) s.requires.0
+    moved_with_row s.args.rows.now s.args.row.now _ _ s.args.count p.place-of-row.result s.requires.1 (omega arith) s.requires.0
     p.place-of-row.ensures moved.move_up.ensures copied.copy.ensures
 
 pub insert-spec : {M : Type 1} → statement M

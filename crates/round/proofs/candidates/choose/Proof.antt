@@ -7,7 +7,7 @@ use lib.ListN.{length-replicate}
 use Rattle.medians.specs.declared.search.Search.{Search}
 use Rattle.sweep.specs.declared.Size.{Size}
 use Rattle.sweep.proofs.Floors.{floors-first}
-use Rattle.round.proofs.candidates.Chosen.{lambda-sought, lambda-rows, choosing-as, remembered-as, fresh-as}
+use Rattle.round.proofs.candidates.Chosen.{lambda_sought, lambda_rows, choosing_as, remembered_as, fresh_as}
 use Rattle.round.proofs.candidates.choose.Statement.{statement}
 use Rattle.round.proofs.candidates.choose.Tie as tie
 
@@ -17,10 +17,10 @@ module _ (c : tie.After-sweep) where
   start = c.before.before.before.before.before.before.before.before.before.before.before.before
 
   size : ◌≡◌ {A = Size} c.sweep.result.size start.args.size
-  size = c.sweep.ensures.size-stays ∙ c.before.seeking.ensures.0
+  size = c.sweep.ensures.size_stays ∙ c.before.seeking.ensures.0
 
   made : ◌≡◌ {A = ℕ} c.sweep.result.search.made start.args.made
-  made = c.sweep.ensures.swept.made-stays ∙ ap (λ (s : Search). s.made) c.before.seeking.ensures.1
+  made = c.sweep.ensures.swept.made_stays ∙ ap (λ (s : Search). s.made) c.before.seeking.ensures.1
 
 sweep-requires : tie.Need-sweep-requires
 sweep-requires c κs =
@@ -35,8 +35,8 @@ sweep-requires c κs =
         room = omega (arith, p.0.few);
         lie = p.0.lie;
         cells = p.0.cells;
-        gathered-size = simp length-replicate;
-        guesses-size = search rules;
+        gathered_size = simp length-replicate;
+        guesses_sized = search rules;
         low = omega arith;
       },
       floors-first,
@@ -48,18 +48,18 @@ gather-window-requires c κs =
     let e = f.sweep.ensures in
     let is = f.before.seeking.ensures in
     let p = (start f).requires in (
-      choosing-as (sym (size f)) (sym (made f)) p.0,
+      choosing_as (sym (size f)) (sym (made f)) p.0,
       p.1,
-      remembered-as (sym e.size-stays) (sym e.swept.made-stays) e.kept.remembered,
-      e.kept.guesses-size,
-      lambda-sought _ e is.1,
-      lambda-rows e.swept (rw is.1 refl) (rw is.1 refl),
+      remembered_as (sym e.size_stays) (sym e.swept.made_stays) e.kept.remembered,
+      e.kept.guesses_sized,
+      lambda_sought _ e is.1,
+      lambda_rows e.swept (rw is.1 refl) (rw is.1 refl),
     )
 
 returns : tie.Need-returns
 returns c =
     let f = c.before.before.before.before.before.before.before.before.before.before.before.before.before in
-    rw c.come-to.ensures (fresh-as (size f) (made f) c.before.before.before.before.before.gather-window.ensures)
+    rw c.come-to.ensures (fresh_as (size f) (made f) c.before.before.before.before.before.gather-window.ensures)
 
 pub choose_spec : {M : Type 1} → statement M
 choose_spec =

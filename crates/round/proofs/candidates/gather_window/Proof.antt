@@ -5,7 +5,7 @@ use Prim.Native.Nat.{◌+◌}
 use native.Mathlib.Omega.{arith}
 use borrow.Author.Rules.{rules}
 use lib.ListN.{replicate, length-replicate}
-use Rattle.medians.specs.Search.{forAll}
+use Rattle.medians.specs.Search.{for_all}
 use Rattle.medians.specs.Swept.{Swept}
 use Rattle.sweep.specs.Candidate.{Candidate, Everywhere}
 use Rattle.round.proofs.candidates.Chosen.{fresh-none, fresh_added}
@@ -25,7 +25,7 @@ module _ (c : tie.After-sweep) where
       let v = a.window.least in
       Swept (Everywhere a.weights.now a.states.now a.area.now v.size.types v.search.made v.size.types)
       (Candidate a.weights.now a.states.now a.area.now v.size.types v.search.made) (replicate 8192 0)
-      (forAll v.search.made (v.search.below + a.window.epsilon + 1)) c.sweep.new.1.1.1.1.1.1.0 c.sweep.result.search
+      (for_all v.search.made (v.search.below + a.window.epsilon + 1)) c.sweep.new.1.1.1.1.1.1.0 c.sweep.result.search
   swept =
       let e = c.before.again.ensures in
       rw (e.0, e.1, c.before.before.before.before.before.for-all2.ensures, start.pre.5) at c.sweep.ensures.swept
@@ -49,9 +49,9 @@ sweep-requires c κs =
         room = omega (arith, p.0.few);
         lie = p.0.lie;
         cells = p.0.cells;
-        gathered-size = rw p.5 (simp length-replicate);
-        guesses-size = p.3;
-        low = omega (arith, p.1, p.4.no-higher);
+        gathered_size = rw p.5 (simp length-replicate);
+        guesses_sized = p.3;
+        low = omega (arith, p.1, p.4.no_higher);
       },
       p.4.floors,
     )

@@ -1,7 +1,7 @@
 -- `fresh::many_links` meets its contract: the sum stays small.
 use Prim.Native.Nat.{◌+◌, ◌*◌, ◌-◌, ◌≤◌}
 use native.Mathlib.Omega.{arith}
-use Rattle.graph.proofs.Below.{count-le}
+use Rattle.graph.proofs.Below.{count_le}
 use Rattle.links.specs.Marks.{marked}
 use Rattle.round.proofs.fresh.many_links.Statement.{statement}
 use Rattle.round.proofs.fresh.many_links.Tie as tie
@@ -17,7 +17,7 @@ few : (c : tie.After-link-count invariant-loop decreases-loop) → c.link-count.
 few c =
     let i = c.before.before.loop.i in
     let a = c.before.before.before.before.args in
-    omega (arith, c.link-count.ensures, count-le i (marked a.area.now i), c.before.loop-test.true)
+    omega (arith, c.link-count.ensures, count_le i (marked a.area.now i), c.before.loop-test.true)
 
 add-links : tie.Need-overflow-add-links invariant-loop decreases-loop
 add-links c = omega (arith, few c)

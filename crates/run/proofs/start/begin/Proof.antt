@@ -4,11 +4,11 @@ use mathlib.Core.Bool.{false}
 use native.Mathlib.Omega.{arith}
 use lib.ListN.{length, replicate, length-replicate}
 use borrow.Author.Rules.{rules}
-use Rattle.rules.specs.Job.{Bytes, jobRows}
-use Rattle.rules.specs.Types.{tooMany}
+use Rattle.rules.specs.Job.{Bytes, job_rows}
+use Rattle.rules.specs.Types.{has_too_many}
 use Rattle.rules.proofs.Job.{passed_is}
 use Rattle.types.specs.Collapse.{Collapsed}
-use Rattle.run.proofs.start.Beginning.{job-weighed, sample-few, states-lent, begun_first, begun-none, many-told, few-told}
+use Rattle.run.proofs.start.Beginning.{job-weighed, sample_few, states-lent, begun_first, begun-none, many-told, few-told}
 use Rattle.run.proofs.start.begin.Statement.{statement}
 use Rattle.run.proofs.start.begin.Tie as tie
 
@@ -30,7 +30,7 @@ collapsed : (c : tie.After-collapse) → Collapsed (job c) (replicate (length (e
 collapsed c = rw (states-cleared c).clear-bytes.ensures at c.collapse.ensures
 
 -- The answer is not TYPES: there are not too many types.
-not-many : (c : tie.At-match-keys2) → tooMany (jobRows (job c.before.before.before)) ≡ false
+not-many : (c : tie.At-match-keys2) → has_too_many (job_rows (job c.before.before.before)) ≡ false
 not-many c = few-told _ c.before.before.before.collapse.ensures.answered c.match.keys2
 
 header-of-requires : tie.Need-header-of-requires
@@ -51,7 +51,7 @@ measure-requires c κs =
     let m = c.before.before in
     let k = m.before.before.before in
     let p = (entry k).requires in
-    let few = sample-few _ p.0 (not-many m) p.2 (collapsed k) in (
+    let few = sample_few _ p.0 (not-many m) p.2 (collapsed k) in (
       rw p.1 (job-weighed _ p.0),
       few,
       omega (arith, few, states-lent _ p.0 (not-many m) p.2 (collapsed k), p.2),
@@ -65,7 +65,7 @@ returns-2 c =
     let p = (entry k).requires in
     let zeros = (area-cleared k).clear-words.ensures in
     let filled = c.before.before.before.measure.ensures in
-    rw k.before.before.header_of.ensures.epsilon-is (begun_first _ p.0 (not-many m) p.2 (collapsed k) _ p.1 zeros filled)
+    rw k.before.before.header_of.ensures.epsilon_is (begun_first _ p.0 (not-many m) p.2 (collapsed k) _ p.1 zeros filled)
 
 pub begin-spec : {M : Type 1} → statement M
 begin-spec =

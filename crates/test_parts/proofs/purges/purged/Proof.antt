@@ -5,7 +5,7 @@ use native.Mathlib.Omega.{arith}
 use Rattle.rules.proofs.Job.{passed_is}
 use Rattle.rules.specs.Job.{checked}
 use Rattle.rules.specs.Answers.{number}
-use Rattle.purge.specs.State.{epsilonOf}
+use Rattle.purge.specs.State.{epsilon_of}
 use Rattle.run.proofs.start.Beginning.{begun-small}
 use borrow.Author.Rules.{rules}
 use Rattle.test_parts.proofs.purges.purged.Statement.{statement}
@@ -22,8 +22,8 @@ begun c = c.before.before.before.before.before.before.before.before.before
 abbrev header : tie.After-begin → tie.After-header-of
 header c = c.before.before.before.before.before
 
-small : (c : tie.After-begin) → let s = c.begin.result.held.state in (s.types ≤ s.made) × (s.made ≤ 128) × (epsilonOf s.phase ≤ 65535)
-small c = let e = (header c).header_of.ensures in begun-small c.begin.ensures (omega (arith, e.epsilon-is, e.epsilon-fits))
+small : (c : tie.After-begin) → let s = c.begin.result.held.state in (s.types ≤ s.made) × (s.made ≤ 128) × (epsilon_of s.phase ≤ 65535)
+small c = let e = (header c).header_of.ensures in begun-small c.begin.ensures (omega (arith, e.epsilon_is, e.epsilon_fits))
 
 header-of-requires : tie.Need-header-of-requires
 header-of-requires c κs = (passed_is _ (ok c)).head
@@ -38,22 +38,22 @@ purge-requires : tie.Need-purge-requires
 purge-requires c κs =
     let b = c.before.before.before.before.before.before.before.before in
     let (few, made, epsilon) = small b in
-    (few, made, epsilon, omega (arith, b.begin.ensures.states-size), omega (arith, b.begin.ensures.area-size))
+    (few, made, epsilon, omega (arith, b.begin.ensures.states_size), omega (arith, b.begin.ensures.area_size))
 
 show-types-requires : tie.Need-show-types-requires
 show-types-requires c κs =
     let p = c.before.before.before.before.before.before.before in
     let h = header (begun p) in (
-      omega (arith, p.purge.ensures.states-size, (begun p).begin.ensures.states-size),
+      omega (arith, p.purge.ensures.states_size, (begun p).begin.ensures.states_size),
       omega (arith, h.header_of.ensures.width_is, (passed_is _ (ok h.before)).width-within.at_most),
-      omega (arith, p.purge.ensures.made-stays, (small (begun p)).1),
+      omega (arith, p.purge.ensures.made_stays, (small (begun p)).1),
     )
 
 show-links-requires : tie.Need-show-links-requires
 show-links-requires c κs =
     let p = c.before.before.before.before.before.before.before.before.before in
     let (few, made, _) = small (begun p) in (
-      omega (arith, p.purge.ensures.area-size, (begun p).begin.ensures.area-size),
+      omega (arith, p.purge.ensures.area_size, (begun p).begin.ensures.area_size),
       omega (arith, p.purge.ensures.no_more, few, made),
     )
 

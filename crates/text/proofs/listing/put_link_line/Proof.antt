@@ -7,7 +7,7 @@ use lib.Dec.{lit<}
 use lib.ListN.{get_or}
 use Rattle.graph.specs.Below.{gather}
 use Rattle.rules.specs.Job.{Bytes, word}
-use Rattle.rules.specs.Text.{text, say, linkLine}
+use Rattle.rules.specs.Text.{text, say, link_line}
 use Rattle.memory.proofs.decimals.Upto.{Upto, upto-none, upto-length, upto-room, upto-more}
 use Rattle.text.proofs.listing.put_link_line.Statement.{statement}
 use Rattle.text.proofs.listing.put_link_line.Tie as tie
@@ -30,7 +30,7 @@ abbrev s3 : tie.After-say3 → tie.Start
 s3 c = s2 c.before.before.before.before.before.before
 
 none : (c : tie.Start) → Done 0 c c.args.out.now c.args.at
-unfolding gather linkLine
+unfolding gather link_line
 none c = upto-none _ _ _ _ c.requires.1
 
 one : (c : tie.After-say) → Done 1 (s1 c) c.say.new.0 c.say.result
@@ -73,7 +73,7 @@ same_length : tie.Need-same-length
 same_length c = upto-length (four c.before.before)
 
 returns : tie.Need-returns
-unfolding gather linkLine
+unfolding gather link_line
 returns c = (four c.before.before).done
 
 pub put-link-line-spec : {M : Type 1} → statement M

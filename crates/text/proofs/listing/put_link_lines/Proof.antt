@@ -3,15 +3,15 @@ use mathlib.Core.Path.{◌≡◌, ap}
 use Prim.Native.Nat.{ℕ, ◌+◌, ◌*◌, ◌-◌, ◌<◌}
 use native.Mathlib.Omega.{arith}
 use Rattle.rules.specs.Job.{word}
-use Rattle.rules.specs.Text.{linkLine}
+use Rattle.rules.specs.Text.{link_line}
 use Rattle.memory.proofs.decimals.Upto.{Upto, upto-none, upto-length, upto_all, upto-room, upto-more}
-use Rattle.readback.specs.ReadBack.{readLink}
-use Rattle.text.specs.Lines.{linkLineOf, linkLinesOf}
+use Rattle.readback.specs.ReadBack.{read_link}
+use Rattle.text.specs.Lines.{link_line_of, link_lines_of}
 use Rattle.text.proofs.listing.put_link_lines.Statement.{statement}
 use Rattle.text.proofs.listing.put_link_lines.Tie as tie
 
 abbrev invariant-loop : tie.invariant-loop
-invariant-loop block out₀ at from l at₀ k₀ out at' k = Upto (word block 6) (λ k. linkLine (readLink block k)) out₀ at k out at'
+invariant-loop block out₀ at from l at₀ k₀ out at' k = Upto (word block 6) (λ k. link_line (read_link block k)) out₀ at k out at'
 
 abbrev decreases-loop : tie.decreases-loop
 decreases-loop block out₀ at from l at₀ k₀ out at' k = l - k
@@ -25,8 +25,8 @@ below c = omega (arith, c.loop-test.true, c.before.before.word-at2.ensures.is)
 
 -- The line that is written is that of link k.
 line : (c : tie.In-loop invariant-loop decreases-loop) → let k = c.before.loop.k in let b = (s1 c).args.block.now in
-    linkLineOf b (c.before.before.before.word_at.result + 6 * k) ≡ linkLine (readLink b k)
-line c = ap (λ (from : ℕ). linkLineOf (s1 c).args.block.now (from + 6 * c.before.loop.k)) c.before.before.before.word_at.ensures.is
+    link_line_of b (c.before.before.before.word_at.result + 6 * k) ≡ link_line (read_link b k)
+line c = ap (λ (from : ℕ). link_line_of (s1 c).args.block.now (from + 6 * c.before.loop.k)) c.before.before.before.word_at.ensures.is
 
 word-at-requires : tie.Need-word-at-requires invariant-loop decreases-loop
 word-at-requires c κs = omega (arith, c.before.before.requires.0.0)
@@ -35,7 +35,7 @@ word-at-requires-2 : tie.Need-word-at-requires-2 invariant-loop decreases-loop
 word-at-requires-2 c κs = omega (arith, c.before.before.before.requires.0.0)
 
 loop-holds : tie.Need-loop-init invariant-loop decreases-loop
-unfolding linkLinesOf
+unfolding link_lines_of
 loop-holds c = upto-none _ _ _ _ c.before.before.before.before.requires.1
 
 mul-put-link-line : tie.Need-overflow-mul-put-link-line invariant-loop decreases-loop
@@ -61,7 +61,7 @@ same_length : tie.Need-same-length invariant-loop decreases-loop
 same_length c = upto-length c.before.loop.invariant
 
 returns : tie.Need-returns invariant-loop decreases-loop
-unfolding linkLinesOf
+unfolding link_lines_of
 returns c = upto_all c.before.loop.invariant (omega (arith, c.loop-test.false, c.before.before.word-at2.ensures.is))
 
 pub put-link-lines-spec : {M : Type 1} → statement M

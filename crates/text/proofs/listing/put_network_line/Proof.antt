@@ -3,7 +3,7 @@ use mathlib.Core.Path.{◌≡◌}
 use mathlib.Core.List.{[], ◌∷◌}
 use borrow.Author.Rules.{rules}
 use Rattle.rules.specs.Text.{text}
-use Rattle.text.specs.Lines.{networkLineOf}
+use Rattle.text.specs.Lines.{network_line_of}
 use Rattle.text.specs.Template.{filled}
 use Rattle.text.proofs.Lines.{network-filled}
 use Rattle.text.proofs.listing.put_network_line.Statement.{statement}
@@ -13,7 +13,7 @@ line : (c : tie.After-word-at4) → let d = c.before.before in
     filled (text "types \0 sampled \u{1} links \u{2} rounds \u{3}\n")
     (d.before.word_at.result ∷ d.word-at2.result ∷ c.before.word-at3.result ∷ c.word-at4.result ∷ [])
     []
-    ≡ networkLineOf d.before.before.before.before.args.block.now
+    ≡ network_line_of d.before.before.before.before.args.block.now
 line c =
     let d = c.before.before in
     network-filled _ d.before.word_at.ensures.is d.word-at2.ensures.is c.before.word-at3.ensures.is c.word-at4.ensures.is

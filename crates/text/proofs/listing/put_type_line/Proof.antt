@@ -6,7 +6,7 @@ use native.Mathlib.Omega.{arith}
 use borrow.Author.Rules.{rules}
 use lib.ListN.{length}
 use Rattle.rules.specs.Text.{text}
-use Rattle.text.specs.Lines.{typeLineOf}
+use Rattle.text.specs.Lines.{type_line_of}
 use Rattle.text.specs.Template.{filled}
 use Rattle.text.proofs.Lines.{sampled-filled, inferred-filled}
 use Rattle.text.proofs.listing.Legible.{Read, read_is}
@@ -18,7 +18,7 @@ seen c = read_is c.args.job.now c.args.block.now c.requires.0
 
 -- Its record stands in the block.
 inside : (c : tie.Start) → 22 + 6 * c.args.k ≤ length c.args.block.now
-inside c = omega (arith, c.requires.1, (seen c).records-in)
+inside c = omega (arith, c.requires.1, (seen c).records_in)
 
 -- The entry, seen from behind the count of sampled types.
 abbrev s1 : tie.After-word-at → tie.Start
@@ -26,14 +26,14 @@ s1 c = c.before.before.before.before.before
 
 sampled : (c : tie.After-word-at2) → let w = c.before.before in let a = (s1 w).args in
     filled (text "T \0 S \u{1} \u{2}\n") (a.k ∷ c.word-at2.result ∷ []) w.before.states-in.result.now
-    ≡ typeLineOf a.job.now a.block.now a.k
+    ≡ type_line_of a.job.now a.block.now a.k
 sampled c =
     let w = c.before.before in
     sampled-filled (seen (s1 w)) w.word_at.ensures.is w.before.states-in.ensures c.before.if1.true c.word-at2.ensures.is
 
 inferred : (c : tie.After-word-at3) → let w = c.before.before in let a = (s1 w).args in
     filled (text "T \0 I \u{1} \u{2}\n") (a.k ∷ c.word-at3.result ∷ []) w.before.states-in.result.now
-    ≡ typeLineOf a.job.now a.block.now a.k
+    ≡ type_line_of a.job.now a.block.now a.k
 inferred c =
     let w = c.before.before in
     inferred-filled (seen (s1 w)) w.word_at.ensures.is w.before.states-in.ensures c.before.if1.false c.word-at3.ensures.is

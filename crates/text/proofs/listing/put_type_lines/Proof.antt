@@ -4,13 +4,13 @@ use Prim.Native.Nat.{◌-◌, ◌<◌}
 use native.Mathlib.Omega.{arith}
 use Rattle.rules.specs.Job.{word}
 use Rattle.memory.proofs.decimals.Upto.{Upto, upto-none, upto-length, upto_all, upto-room, upto-more}
-use Rattle.text.specs.Lines.{typeLineOf, typeLinesOf}
+use Rattle.text.specs.Lines.{type_line_of, type_lines_of}
 use Rattle.text.proofs.listing.Legible.{read_is}
 use Rattle.text.proofs.listing.put_type_lines.Statement.{statement}
 use Rattle.text.proofs.listing.put_type_lines.Tie as tie
 
 abbrev invariant-loop : tie.invariant-loop
-invariant-loop job block out₀ at t at₀ k₀ out at' k = Upto (word block 0) (typeLineOf job block) out₀ at k out at'
+invariant-loop job block out₀ at t at₀ k₀ out at' k = Upto (word block 0) (type_line_of job block) out₀ at k out at'
 
 abbrev decreases-loop : tie.decreases-loop
 decreases-loop job block out₀ at t at₀ k₀ out at' k = t - k
@@ -20,7 +20,7 @@ word-at-requires c κs =
     let s = c.before.before.before in omega (arith, (read_is s.args.job.now s.args.block.now s.requires.0).head)
 
 loop-holds : tie.Need-loop-init invariant-loop decreases-loop
-unfolding typeLinesOf
+unfolding type_lines_of
 loop-holds c = upto-none _ _ _ _ c.before.before.before.before.requires.1
 
 below : (c : tie.In-loop invariant-loop decreases-loop) → c.before.loop.k < word c.before.before.before.before.before.before.args.block.now 0
@@ -40,7 +40,7 @@ same_length : tie.Need-same-length invariant-loop decreases-loop
 same_length c = upto-length c.before.loop.invariant
 
 returns : tie.Need-returns invariant-loop decreases-loop
-unfolding typeLinesOf
+unfolding type_lines_of
 returns c = upto_all c.before.loop.invariant (omega (arith, c.loop-test.false, c.before.before.word_at.ensures.is))
 
 pub put-type-lines-spec : {M : Type 1} → statement M

@@ -1,7 +1,7 @@
 -- `mismatches::find_mismatches` meets its contract: from character c on the bits are those asked for.
 use mathlib.Core.Path.{refl}
 use native.Mathlib.Omega.{arith}
-use Rattle.memory.proofs.Digits.{Spelt, none-spelt, one-spelt, all-spelt}
+use Rattle.memory.proofs.Digits.{Spelt, none_spelt, one_spelt, all_spelt}
 use Rattle.triplets.specs.Mismatches.{bit, differ}
 use Rattle.triplets.proofs.mismatches.Mismatches.{one-bit-fits}
 use Rattle.triplets.proofs.mismatches.find_mismatches.Statement.{statement}
@@ -14,7 +14,7 @@ abbrev decreases-loop : tie.decreases-loop
 decreases-loop states m i j first second bits₀ c₀ w c = c
 
 loop-holds : tie.Need-loop-init invariant-loop decreases-loop
-loop-holds c = none-spelt _ _ _
+loop-holds c = none_spelt _ _ _
 
 mul-bits : tie.Need-overflow-mul-bits invariant-loop decreases-loop
 mul-bits c =
@@ -31,10 +31,10 @@ add-bits c =
 loop-again : tie.Need-loop-preserved invariant-loop decreases-loop
 loop-again c =
     let l = c.before.before.before.before in
-    one-spelt _ _ _ l.loop.c l.loop.bits _ (omega arith) l.loop.invariant c.unlike.ensures
+    one_spelt _ _ _ l.loop.c l.loop.bits _ (omega arith) l.loop.invariant c.unlike.ensures
 
 returns : tie.Need-returns invariant-loop decreases-loop
-returns c = all-spelt _ _ _ c.before.loop.c _ (omega arith) c.before.loop.invariant
+returns c = all_spelt _ _ _ c.before.loop.c _ (omega arith) c.before.loop.invariant
 
 pub find-mismatches-spec : {M : Type 1} → statement M
 find-mismatches-spec =

@@ -3,14 +3,14 @@ use mathlib.Core.Path.{refl, sym, ◌∙◌}
 use mathlib.Core.Bool.{false≢true}
 use borrow.Author.Rules.{rules}
 use borrow.Author.Tests.{eqb-true}
-use Rattle.triplets.proofs.settled.Mixing.{mixed-none}
+use Rattle.triplets.proofs.settled.Mixing.{mixed_none}
 use Rattle.triplets.proofs.settled.is_made.Statement.{statement}
 use Rattle.triplets.proofs.settled.is_made.Tie as tie
 
 returns : tie.Need-returns
 returns c =
     let s = c.before.before.before.before in
-    (λ e. mixed-none _ _ _ _ _ _ s.requires.2 c.if1.true, s.requires.0, refl)
+    (λ e. mixed_none _ _ _ _ _ _ s.requires.2 c.if1.true, s.requires.0, refl)
 
 returns-2 : tie.Need-returns-2
 returns-2 c = (λ e. absurd (false≢true e), c.before.before.before.before.before.before.requires.0, refl)

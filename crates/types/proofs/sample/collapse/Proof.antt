@@ -6,8 +6,8 @@ use native.Mathlib.Omega.{arith}
 use lib.ListN.{length, set}
 use borrow.Author.Rules.{rules}
 use Rattle.graph.specs.Below.{first}
-use Rattle.rules.specs.Job.{Bytes, rows, jobRow}
-use Rattle.rules.specs.Types.{sameRow}
+use Rattle.rules.specs.Job.{Bytes, rows, job_row}
+use Rattle.rules.specs.Types.{is_same_row}
 use Rattle.memory.specs.Placed.{placed}
 use Rattle.types.specs.State.{stored, stored_at}
 use Rattle.types.proofs.sample.Entering.{Holds, holds_as, none_read, row-size, same_size, countable, all_read, one-row-more, one-type-more, refused}
@@ -24,10 +24,10 @@ decreases-loop job states₀ n m kinds₀ types₀ k₀ states kinds types k = n
 found : (c : tie.After-find-row invariant-loop decreases-loop) →
     let l = c.before.before.before.before.before.before.loop in
     let job = c.before.before.before.before.before.before.before.before.before.before.args.job.now in
-    c.find-row.result ≡ first l.types (λ j. sameRow (stored_at l.states j) (stored (jobRow job l.k)))
+    c.find-row.result ≡ first l.types (λ j. is_same_row (stored_at l.states j) (stored (job_row job l.k)))
 found c =
     let l = c.before.before.before.before.before.before.loop in
-    c.find-row.ensures ∙ ap (λ (r : Bytes). first l.types (λ j. sameRow (stored_at l.states j) r)) c.before.before.before.before.row.ensures
+    c.find-row.ensures ∙ ap (λ (r : Bytes). first l.types (λ j. is_same_row (stored_at l.states j) r)) c.before.before.before.before.row.ensures
 
 loop-holds : tie.Need-loop-init invariant-loop decreases-loop
 loop-holds c = let s = c.before.before.before in none_read s.requires.0 s.requires.3 c.no-kinds.ensures

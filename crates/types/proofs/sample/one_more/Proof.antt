@@ -2,12 +2,12 @@
 use mathlib.Core.Path.{ap}
 use native.Mathlib.Omega.{arith}
 use borrow.Author.Rules.{rules}
-use Rattle.rules.specs.Types.{rowCount}
+use Rattle.rules.specs.Types.{row_count}
 use Rattle.types.proofs.sample.one_more.Statement.{statement}
 use Rattle.types.proofs.sample.one_more.Tie as tie
 
 add-t6 : tie.Need-overflow-add-t6
-add-t6 c = omega (arith, ap rowCount c.before.origin.given.1)
+add-t6 c = omega (arith, ap row_count c.before.origin.given.1)
 
 returns : tie.Need-returns
 returns c = rw c.before.origin.given.1
