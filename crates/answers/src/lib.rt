@@ -1,5 +1,7 @@
 // The room of the answers: the number, the place and the bytes used of an answer, as RULES 4 has them.
 
+#![tactic(auto)]
+
 ghost use Rattle.std.specs.Prelude.{◌≡◌};
 ghost use Rattle.answers.specs.Told.{Tells, ToldOf, first_of};
 
@@ -7,7 +9,7 @@ use rules::Answer;
 
 // Laid out as in C, since C programs are told of an answer so.
 #[repr(C)]
-#[derive(Drop)]
+#[derive(Clone, Copy)]
 pub struct Told {
     pub number: usize,
     pub place: usize,

@@ -2,6 +2,8 @@
 // holds the distance of types i and j where i is below j. The mirror cells belong to the search for links. It reads the state
 // area and writes the distance area.
 
+#![tactic(auto)]
+
 ghost use Rattle.std.specs.Prelude.{◌≡◌, cond, ◌+◌, ◌*◌, ◌≤◌, ◌<◌, eqb, length};
 ghost use Rattle.rules.specs.Sizes.{most_types, row_size, distance_area};
 ghost use Rattle.distances.specs.Area.{Weighed, CellsWritten, New, stored_apart};

@@ -65,7 +65,7 @@ fn take_byte(text: &[u8], line: usize, i: usize, begun: usize, lengths: &mut [u8
 }
 
 // The first fault, or none, and how many sequences were opened before it.
-#[derive(Drop)]
+#[derive(Clone, Copy)]
 struct Reading {
     answer: Conversion,
     begun: usize,
@@ -111,7 +111,7 @@ fn first_outside(lengths: &[u8], n: usize, low: usize, high: usize) -> usize
 }
 
 // The rows and the width of a job that a text can be made, or its refusal, and then both are 0.
-#[derive(Drop)]
+#[derive(Clone, Copy)]
 pub struct JobSize {
     pub answer: Conversion,
     pub rows: usize,

@@ -5,7 +5,7 @@ ghost use Rattle.fasta.specs.Answers.{ToldConversion};
 use answers::{Told, refusal};
 
 // What a text is answered: a job block of so many bytes, or the refusals 20 to 26 in their order.
-#[derive(Drop)]
+#[derive(Clone, Copy)]
 pub enum Conversion {
     Done { used: usize },
     Short,

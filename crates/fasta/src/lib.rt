@@ -2,6 +2,8 @@
 // sequence and which are states (`lines`), how many sequences there are and how long (`alignment`), what a text is answered
 // (`conversion`). The text is only read.
 
+#![tactic(auto)]
+
 pub mod alignment;
 pub mod conversion;
 pub mod lines;

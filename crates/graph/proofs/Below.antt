@@ -78,6 +78,7 @@ module _ {A : Type 0} where
 
   pub get_or-table : (n : ℕ) (f : ℕ → A) (i : ℕ) (x : A) → i < n → get_or (table n f) i x ≡ f i
   unfolding table
+  get_or-table zero f i x h = elim h [ ]
   get_or-table (suc n) f i x h =
       last_or (λ j. get_or (table (suc n) f) j x ≡ f j) n i h (get_or_at (table n f) (f n) [] x n (length-table n f))
       (λ l. get_or-append (table n f) _ x i (rw length-table l) ∙ get_or-table n f i x l)
@@ -92,6 +93,7 @@ module _ {A : Type 0} where
   In x (y ∷ ys) = (x ≡ y) ⊎ In x ys
 
   in_left : (x : A) (xs ys : List A) → In x xs → In x (xs ++ ys)
+  in_left x [] ys x'' = elim x'' [ ]
   in_left x (y ∷ xs) ys (inl e) = inl e
   in_left x (y ∷ xs) ys (inr h) = inr (in_left x xs ys h)
 
@@ -133,6 +135,7 @@ module _ {A : Type 0} where
 
   -- Where an element stands.
   pub in_place : (x : A) (xs : List A) → In x xs → (i : ℕ) × (i < length xs) × ((d : A) → get_or xs i d ≡ x)
+  in_place x [] x'' = elim x'' [ ]
   in_place x (y ∷ xs) (inl e) = (0, omega arith, λ d. sym e)
   in_place x (y ∷ xs) (inr h) = let s = in_place x xs h in (suc s.0, omega arith, s.2)
 
@@ -144,6 +147,7 @@ module _ {A : Type 0} where
   )
 
 pub in_replicate : {A : Type 0} (x a : A) (n : ℕ) → In x (replicate n a) → x ≡ a
+in_replicate {A = A} x a zero x'' = elim x'' [ ]
 in_replicate x a (suc n) (inl e) = e
 in_replicate x a (suc n) (inr h) = in_replicate x a n h
 
@@ -259,6 +263,7 @@ sum_zero (suc n) f z = omega (arith, sum_zero n f (λ i h. z i (omega arith)), z
 -- A sum whose terms are all 0 but one is that term.
 pub sum_one : (n : ℕ) (f : ℕ → ℕ) (k : ℕ) → k < n → ((i : ℕ) → i < n → i ≢ k → f i ≡ 0) → sum n f ≡ f k
 unfolding sum
+sum_one zero f k h z = elim h [ ]
 sum_one (suc n) f k h z = elim (ℕ_discrete k n) [
   | yes e ↦ rw e (omega (arith, sum_zero n f (λ i l. z i (omega arith) (omega arith))))
   | no ne ↦ omega (arith, sum_one n f k (omega arith) (λ i l. z i (omega arith)), z n (omega arith) (omega arith))
@@ -267,6 +272,7 @@ sum_one (suc n) f k h z = elim (ℕ_discrete k n) [
 -- Each term is within the sum.
 pub sum_term : (n : ℕ) (f : ℕ → ℕ) (i : ℕ) → i < n → f i ≤ sum n f
 unfolding sum
+sum_term zero f i h = elim h [ ]
 sum_term (suc n) f i h = last_or (λ j. f j ≤ sum (suc n) f) n i h (omega arith) (λ l. omega (arith, sum_term n f i l))
 
 pub sum_plus : (n : ℕ) (f g : ℕ → ℕ) → sum n (λ i. f i + g i) ≡ sum n f + sum n g

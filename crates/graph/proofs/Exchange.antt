@@ -21,6 +21,7 @@ take_out l (m ∷ E) L = later (take_out l E L)
 
 -- Wherever E has a link between a and b, that link can be taken out.
 pub find : (E : List Ends) (a b : ℕ) → Has E a b → (l : Ends) × (R : List Ends) × Between l a b × Taken l E R
+find [] a b x' = elim x' [ ]
 find (l ∷ E) a b (inl h) = (l, E, h, here)
 find (m ∷ E) a b (inr h) = let (l, R, k, t) = find E a b h in (l, m ∷ R, k, later t)
 

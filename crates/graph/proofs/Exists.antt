@@ -44,6 +44,7 @@ module _ (n : ℕ) (d : ℕ → ℕ → ℕ) where
 
   -- By induction on a bound of the cost.
   cheapen : 0 < n → (c : ℕ) (E : List Ends) → Tree n E → cost d E < c → (F : List Ends) × Cheapest n d F
+  cheapen pos zero E T h = elim h [ ]
   cheapen pos (suc c) E T h = elim (some? n (length E) (Cheaper (cost d E)) (cheaper? (cost d E))) [
     | yes s ↦
         let (F, e, i, p) = of_some n (length E) (Cheaper (cost d E)) s in
@@ -60,4 +61,5 @@ module _ (n : ℕ) (d : ℕ → ℕ → ℕ) where
       ]
 
 pub cheapest-tree : (n : ℕ) (d : ℕ → ℕ → ℕ) → 0 < n → (E : List Ends) × Cheapest n d E
+cheapest-tree zero d pos = elim pos [ ]
 cheapest-tree (suc m) d pos = let (E, T) = star m in cheapen (suc m) d pos (suc (cost d E)) E T (omega arith)

@@ -25,6 +25,7 @@ module _ (n : ℕ) (d : ℕ → ℕ → ℕ) where
   module _ (ε : ℕ) (chain? : (x u v : ℕ) → u < n → v < n → Dec (Chain n d ε x u v)) where
     -- By induction on a bound k of the distance: two nodes are linked, or a chain of shorter steps leads from one to the other.
     bridged : (k u v : ℕ) → u < n → v < n → d u v < k → Walk (Bridge n d ε (d u v)) u v
+    bridged Prim.Native.Nat.zero u v hu hv h = elim h [ ]
     bridged (suc k) u v hu hv h = elim (ℕ_discrete u v) [
       | yes e ↦ stop e
       | no ne ↦ elim (chain? (d u v) u v hu hv) [

@@ -18,6 +18,7 @@ use Rattle.graph.proofs.Links.{between}
 -- A list with one element fewer, that still has all the others.
 without : (x : ℕ) (L : List ℕ) → In x L → (M : List ℕ) × (length L ≡ suc (length M)) × ((y : ℕ) → y ≢ x → In y L → In y M)
 unfolding ⊎_map
+without x [] x'' = elim x'' [ ]
 without x (z ∷ L) (inl e) = (L, refl, λ y ne. ⊎_elim (λ g. absurd (ne (g ∙ sym e))) (λ h. h))
 without x (z ∷ L) (inr h) = let (M, e, f) = without x L h in (z ∷ M, ap suc e, λ y ne. ⊎_map (λ g. g) (f y ne))
 

@@ -17,6 +17,7 @@ between S turn l s a b (inr e) = rw (e.0, e.1) at (turn _ _ s)
 -- Links hold both ways, and so do paths.
 pub has-back : (E : List Ends) (a b : ℕ) → Has E a b → Has E b a
 unfolding ⊎_map ⊎_swap
+has-back [] a b h = elim h [ ]
 has-back (l ∷ E) a b h = ⊎_map ⊎_swap (has-back E a b) h
 
 pub joined_back : (E : List Ends) {u v : ℕ} → Joined E u v → Joined E v u

@@ -67,6 +67,7 @@ module _ (n : ℕ) (d : ℕ → ℕ → ℕ) where
         ((spanned-more k a j ha hj).0 p))
 
     through : (k : ℕ) → k ≤ n → (j : ℕ) → j < k → Through k j
+    through zero hk j h = elim h [ ]
     through (suc k) hk j h =
         last_or (Through (suc k)) k j h (through-new k hk) (λ l. through_old k j hk (omega arith) (through k (omega arith) j l))
 

@@ -2,6 +2,8 @@
 // large memory takes longer to make than they take to answer: so job and text are in little memory, and in larger only where that is too
 // little.
 
+#![tactic(auto)]
+
 ghost use Rattle.std.specs.Prelude.{◌≤◌, length};
 
 use answers::Told;

@@ -1,6 +1,8 @@
 // The room of the interface for C and Rust: the call, the row lookup and the text, over numbers and slices. Each function passes on what
 // the room below says; include/hurdlesong.h has the same words for C. A slice is a pointer and a length there.
 
+#![tactic(auto)]
+
 ghost use Rattle.std.specs.Prelude.{length};
 ghost use Rattle.lookup.specs.Places.{Points};
 ghost use Rattle.hurdlesong_c.specs.Interface.{CallTold, TextTold};

@@ -2,6 +2,8 @@
 // Arguments are epsilon in decimal, 0 where it is left out, and the name of the file. What is no text to answer gets a line on standard
 // error, and no network.
 
+#![tactic(auto)]
+
 ghost use Rattle.std.specs.Prelude.{◌≡◌, ◌≤◌, length};
 ghost use Rattle.hurdlesong_fasta.specs.Fits.{Fits};
 
@@ -11,7 +13,7 @@ use service::from_fasta::answer_fasta;
 use text::TEXT_ROOM;
 
 // What came of reading a text: all of it, so many bytes; as much as there is room for; or a read that failed.
-#[derive(Drop)]
+#[derive(Clone, Copy)]
 enum Input {
     Whole { length: usize },
     Long,

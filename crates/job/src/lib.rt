@@ -1,6 +1,8 @@
 // The room of the job block. Its corners are the checks: of the lengths lent (`areas`, 1), of the job's form (`checks`, 2 to 5) and of its
 // contents (`contents`, 6 and 7). Here is what is read off a job that passed: its fields, its weights and its rows. The job is only read.
 
+#![tactic(auto)]
+
 pub mod areas;
 pub mod checks;
 pub mod contents;
@@ -16,7 +18,7 @@ use memory::{copy, word_at};
 use rules::{JOB_HEAD, MOST_WIDTH, ROW};
 
 // What the header says of the job's size, and epsilon.
-#[derive(Drop)]
+#[derive(Clone, Copy)]
 pub struct Header {
     pub rows: usize,
     pub width: usize,

@@ -1,6 +1,8 @@
 // The room of links: which types are linked at an epsilon, and with how many others. It reads the distances of the distance area
 // and writes its mirror cells: 1 if the two types are linked, and else 0.
 
+#![tactic(auto)]
+
 ghost use Rattle.std.specs.Prelude.{◌≡◌, cond, ◌+◌, ◌*◌, ◌≤◌, ◌<◌, eqb, length};
 ghost use Rattle.rules.specs.Sizes.{most_types, line_size, distance_area};
 ghost use Rattle.distances.specs.Area.{CellsWritten, Line};

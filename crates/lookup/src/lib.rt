@@ -1,6 +1,8 @@
 // The room of the row lookup: the states of a type as a part of the caller's job or of the caller's result block, and where that part
 // lies, in numbers. Any job, any block and any number may be asked about, damaged ones too. It alters nothing.
 
+#![tactic(auto)]
+
 pub mod matching;
 
 ghost use Rattle.std.specs.Prelude.{◌≡◌, true, ◌+◌, ◌≤◌, length, take, drop};
@@ -14,7 +16,7 @@ use rules::{JOB_HEAD, RECORD_SIZE, RECORDS_OFFSET};
 
 // Where the states of a type lie: in the job (1), in the result block (2) or nowhere (0); from which byte on; how many.
 #[repr(C)]
-#[derive(Drop)]
+#[derive(Clone, Copy)]
 pub struct Place {
     pub source: usize,
     pub at: usize,

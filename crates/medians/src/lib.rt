@@ -1,6 +1,8 @@
 // The room of median vectors: the three of a triplet, and their connection cost. Its corners tell whether a vector is new (`guesses`), what
 // one candidate makes of a search (`search`), and meet the vectors of a triplet (`visit`). It reads the state area.
 
+#![tactic(auto)]
+
 pub mod guesses;
 pub mod search;
 pub mod visit;

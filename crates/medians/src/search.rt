@@ -19,7 +19,7 @@ pub const ABOVE_ALL_COSTS: usize = 128001;
 
 // A search: only costs below this matter; so many rows were made, and so many candidates gathered since. When candidates are gathered
 // and no room is left for one more, the search is full and looks for nothing more.
-#[derive(Drop)]
+#[derive(Clone, Copy)]
 pub struct Search {
     pub below: usize,
     pub made: usize,

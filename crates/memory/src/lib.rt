@@ -2,6 +2,8 @@
 // numbers in decimals (`decimals`) and read them (`numerals`). Leaf code: every other room reads and writes through it, and it knows
 // nothing of jobs or types.
 
+#![tactic(auto)]
+
 pub mod decimals;
 pub mod numerals;
 

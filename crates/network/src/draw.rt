@@ -14,7 +14,7 @@ use rules::{Answer, LINK_SIZE};
 use run::run;
 
 // A network that lacks only its links: the answer, its types, how many links there are, and where in the result they go.
-#[derive(Drop)]
+#[derive(Clone, Copy)]
 pub struct Sketch {
     pub answer: Answer,
     pub types: usize,

@@ -2,6 +2,8 @@
 // memory is zero to its end. The job is only read, and what lay in the memory before does not matter. Its corner (`draw`) runs a job that
 // passed the checks and writes its network up to the links.
 
+#![tactic(auto)]
+
 pub mod draw;
 
 ghost use Rattle.network.specs.Called.{Answered, Called, Unlinked};

@@ -2,6 +2,8 @@
 // of all types made and stays known. Its corners: the run's small state (`state`), which types stay (`stay`), what is left when the others
 // go (`retire`). It writes the state area and the distance area.
 
+#![tactic(auto)]
+
 pub mod retire;
 pub mod state;
 pub mod stay;

@@ -8,14 +8,14 @@ ghost use Rattle.purge.specs.State.{epsilon_of, keeping, grown, second_phase};
 use rules::{Kind, MOST_TYPES};
 
 // Phase I is at the job's epsilon, Phase II at epsilon 0.
-#[derive(Drop)]
+#[derive(Clone, Copy)]
 pub enum Phase {
     One { epsilon: usize },
     Two,
 }
 
 // The run's small state: how many types are current, how many were ever made, the rounds that added a type, the phase.
-#[derive(Drop)]
+#[derive(Clone, Copy)]
 pub struct State {
     pub types: usize,
     pub made: usize,
@@ -68,7 +68,7 @@ impl State {
 }
 
 // What of the run is held by value: its small state, and the kinds of its current types.
-#[derive(Drop)]
+#[derive(Clone, Copy)]
 pub struct Held {
     pub state: State,
     pub kinds: [Kind; MOST_TYPES],

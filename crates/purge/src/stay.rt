@@ -8,7 +8,7 @@ use links::link_count;
 use rules::{Kind, MOST_TYPES, Origin};
 
 // The places of the types that stay, ascending, and how many they are.
-#[derive(Drop)]
+#[derive(Clone, Copy)]
 pub struct Stay {
     pub kept: [usize; MOST_TYPES],
     pub count: usize,

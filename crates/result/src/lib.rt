@@ -2,6 +2,8 @@
 // links, with the records and rows of its corner `records`; the links go in their order (`ordered`) to the link table and from there to the
 // result (`table`). It reads the state area, the distance area and what is held by value.
 
+#![tactic(auto)]
+
 pub mod ordered;
 pub mod records;
 pub mod table;
@@ -19,7 +21,7 @@ use purge::state::Held;
 use rules::{RECORD_SIZE, RECORDS_OFFSET};
 
 // How many links are still to be written, and where.
-#[derive(Drop)]
+#[derive(Clone, Copy)]
 pub struct Front {
     pub links: usize,
     pub at: usize,

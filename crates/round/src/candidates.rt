@@ -15,7 +15,7 @@ use rules::{MOST_TYPES, STATE_AREA};
 use sweep::{Size, Survey, sweep};
 
 // The rows that a round adds, ascending, with zeros behind them; or no room for them.
-#[derive(Drop)]
+#[derive(Clone, Copy)]
 pub struct Added {
     pub rows: [u8; STATE_AREA],
     pub count: usize,
@@ -35,7 +35,7 @@ fn none_fits() -> Added
 }
 
 // A second sweep is within a window: what the first one came to, and epsilon.
-#[derive(Drop)]
+#[derive(Clone, Copy)]
 struct Window {
     least: Survey,
     epsilon: usize,

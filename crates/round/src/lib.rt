@@ -2,6 +2,8 @@
 // retired ones move up. Its corners choose the rows that are added: two sweeps (`candidates`), the order of the rows
 // (`ascending`), and the memory that both need (`fresh`). It writes the state area and the distance area.
 
+#![tactic(auto)]
+
 pub mod ascending;
 pub mod candidates;
 pub mod fresh;
@@ -21,7 +23,7 @@ use purge::state::Held;
 use rules::{Kind, MOST_TYPES, Origin, ROW, STATE_AREA};
 
 // What a round comes to: the run's state, and how many types were added; none are where there is no candidate, or no room.
-#[derive(Drop)]
+#[derive(Clone, Copy)]
 pub struct Turn {
     pub held: Held,
     pub added: usize,

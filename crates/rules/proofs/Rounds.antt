@@ -26,6 +26,7 @@ least-from x (o ∷ os) = omega (arith, least-from (min x o.cost) os)
 
 least_in : (x : ℕ) (os : List Offer) (o : Offer) → In o os → least_from x os ≤ o.cost
 unfolding least_from
+least_in x [] o x3 = elim x3 [ ]
 least_in x (p ∷ os) o (inl e) = rw e (omega (arith, least-from (min x p.cost) os))
 least_in x (p ∷ os) o (inr h) = least_in (min x p.cost) os o h
 
@@ -41,6 +42,7 @@ least-is p (q ∷ os) = elim (dec_le p.cost q.cost) [
 
 -- No offer's cost is below the least, and some offer's is it.
 pub least-cost_le : (os : List Offer) (o : Offer) → In o os → least_cost os ≤ o.cost
+least-cost_le [] o x' = elim x' [ ]
 least-cost_le (p ∷ os) o (inl e) = rw e (least-from p.cost os)
 least-cost_le (p ∷ os) o (inr h) = least_in p.cost os o h
 

@@ -50,6 +50,7 @@ module _ (t : ℕ → Bool) where
   -- A number that passes stands at the place that says how many pass before it.
   kept_at : (n k : ℕ) → k < n → t k ≡ true → (count k t < length (kept n)) × (get_or (kept n) (count k t) 0 ≡ k)
   unfolding gather
+  kept_at zero k h = elim h [ ]
   kept_at (suc n) k h = last_or (λ j. t j ≡ true → (count j t < length (kept (suc n))) × (get_or (kept (suc n)) (count j t) 0 ≡ j)) n k h
       (λ e. rw e (rw length-append (omega (arith, length-kept n t (λ i. i))), get_or_at (kept n) n [] 0 (count n t) (length-kept n t (λ i. i))))
       (λ l e. let ih = kept_at n k l e in

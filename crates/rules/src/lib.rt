@@ -1,6 +1,8 @@
 // The room of the rules: docs/RULES.md as definitions (specs/, a file for each of its chapters, more or less) and the laws about them that
 // proofs cite (proofs/). It has no functions. Here stand the types and the sizes that the definitions share with the code.
 
+#![tactic(auto)]
+
 // RULES 1.6: sizes, each under its name, once; specs/Sizes.antt and specs/Result.antt have the same.
 // A job: its most rows, their most characters, the bounds of weights and states, the six numbers of its head, the largest block.
 pub const MOST_ROWS: usize = 256;
@@ -45,21 +47,21 @@ pub const STATE_AREA: usize = MOST_TYPES * ROW;
 pub const DISTANCE_AREA: usize = MOST_TYPES * LINE;
 
 // RULES 5.3: where a type comes from.
-#[derive(Drop)]
+#[derive(Clone, Copy)]
 pub enum Origin {
     Sampled { rows: usize, first: usize },
     Inferred { round: usize },
 }
 
 // What is known of a type beside its states, which lie in the state area.
-#[derive(Drop)]
+#[derive(Clone, Copy)]
 pub struct Kind {
     pub origin: Origin,
 }
 
 // RULES 7.4: a link. Laid out as in C, so that C programs can lend a table of them.
 #[repr(C)]
-#[derive(Drop)]
+#[derive(Clone, Copy)]
 pub struct Link {
     pub low: u16,
     pub high: u16,
@@ -67,7 +69,7 @@ pub struct Link {
 }
 
 // RULES 4.1: what a job is answered: a network of so many bytes, or one of the refusals, which stand here in their order.
-#[derive(Drop)]
+#[derive(Clone, Copy)]
 pub enum Answer {
     Done { used: usize },
     Area,

@@ -2,6 +2,8 @@
 // the distance area and in the state of the run is the network; after a refusal both areas are zero. Its corner is how a run begins
 // (`start`). The job is only read.
 
+#![tactic(auto)]
+
 pub mod start;
 
 ghost use Rattle.std.specs.Prelude.{◌≡◌, ◌≤◌, length};

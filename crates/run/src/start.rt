@@ -17,7 +17,7 @@ use types::no_kinds;
 use types::sample::collapse;
 
 // How a part of a run ends: refused, with nothing left in memory, or with the state that memory holds.
-#[derive(Drop)]
+#[derive(Clone, Copy)]
 pub struct Ended {
     pub answer: Answer,
     pub held: Held,

@@ -1,6 +1,8 @@
 // The room of the whole service: a job is answered and its answer printed, over work memory of its own. Its corner does the same for a FASTA
 // text (`from_fasta`). What the programs do, but for reading and writing.
 
+#![tactic(auto)]
+
 pub mod from_fasta;
 
 ghost use Rattle.network.specs.Called.{Called};
@@ -12,7 +14,7 @@ use rules::{Answer, DISTANCE_AREA, Link, MOST_LINKS, RESULT_AREA, STATE_AREA};
 use text::{tell_text, text};
 
 // What a call with a table by value leaves: the answer, and the table.
-#[derive(Drop)]
+#[derive(Clone, Copy)]
 pub struct Owned {
     pub answer: Answer,
     pub table: [Link; MOST_LINKS],

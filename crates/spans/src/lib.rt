@@ -3,6 +3,8 @@
 // the types behind the earlier one joined, up to the later one's. It reads the distances of the distance area and copies them to
 // its mirror cells, so that a type's line holds all its distances. The spans are written to a lent area of their own.
 
+#![tactic(auto)]
+
 ghost use Rattle.std.specs.Prelude.{◌≡◌, ℕ, ◌+◌, ◌*◌, ◌≤◌, ◌<◌, min, max, length, get_or};
 ghost use Rattle.rules.specs.Sizes.{most_types, line_size, distance_area};
 ghost use Rattle.distances.specs.Area.{cell_at, CellsWritten, Line};

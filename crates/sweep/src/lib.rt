@@ -1,6 +1,8 @@
 // The room of the sweep: all triplets of current types are gone through, and each candidate that they give is met. It reads the state
 // area and the distance area.
 
+#![tactic(auto)]
+
 ghost use Rattle.std.specs.Prelude.{◌≡◌, true, ◌*◌, ◌≤◌, ◌<◌, min, length};
 ghost use Rattle.triplets.specs.Triplet.{no_cost};
 ghost use Rattle.rules.specs.Sizes.{most_types, row_size, distance_area};
@@ -14,14 +16,14 @@ use rules::{LINE, MOST_TYPES};
 use triplets::{FOLLOWERS_LINE, NO_COST, Triplet, cost_floor, in_order};
 
 // How many characters are in use, and how many types are current.
-#[derive(Drop)]
+#[derive(Clone, Copy)]
 pub struct Size {
     pub width: usize,
     pub types: usize,
 }
 
 // What is met: the search has come to this, and no candidate met costs less than the floor.
-#[derive(Drop)]
+#[derive(Clone, Copy)]
 struct Met {
     search: Search,
     floor: usize,
@@ -37,7 +39,7 @@ impl Met {
 }
 
 // A type c, and the search that comes to it.
-#[derive(Drop)]
+#[derive(Clone, Copy)]
 struct Centre {
     size: Size,
     search: Search,
@@ -45,7 +47,7 @@ struct Centre {
 }
 
 // A type c and a type a linked with it, and what was met before.
-#[derive(Drop)]
+#[derive(Clone, Copy)]
 struct Pair {
     size: Size,
     met: Met,
@@ -54,7 +56,7 @@ struct Pair {
 }
 
 // How far all triplets are searched: the search has come to this, and there is a floor for each type.
-#[derive(Drop)]
+#[derive(Clone, Copy)]
 pub struct Survey {
     pub size: Size,
     pub search: Search,

@@ -1,6 +1,9 @@
 // The cases of RULES 16.2 to 16.4: R1 to R4, rows 256 and 257, widths 64 and 65, the first example of the paper; and an area that is
 // too short. Each job is built in memory and answered twice over the same memory, which is filled with other leftovers in between. All areas
 // but the link table are longer than they need to be, save in the last case.
+
+#![tactic(auto)]
+
 mod build;
 
 ghost use Rattle.std.specs.Prelude.{◌+◌, ◌*◌, ◌≤◌};

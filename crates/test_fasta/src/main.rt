@@ -1,6 +1,8 @@
 // The stored FASTA texts: each is turned into a job, and what is left in the memory that is lent for the job is looked for. Arguments come
 // in threes: how many bytes are lent, epsilon, and the name of a file. Printed are the number, the place and the bytes used, then the block.
 
+#![tactic(auto)]
+
 ghost use Rattle.std.specs.Prelude.{◌≤◌, length};
 
 use answers::Told;

@@ -1,5 +1,8 @@
 // The parts of the base, asked one by one: the checks, the sampled types, the links and the purge. The questions stand in the file
 // `stdin`, one behind the other; tests/parts.py writes them, and tells from the rules alone what must be printed.
+
+#![tactic(auto)]
+
 mod damages;
 mod purges;
 mod show;

@@ -1,4 +1,7 @@
 // The stored jobs: each file that an argument names is answered, one behind the other.
+
+#![tactic(auto)]
+
 use service::answer_text;
 use text::TEXT_ROOM;
 

@@ -2,6 +2,8 @@
 // leftovers, and all that can be compared goes to standard output: the number, the place and the bytes used (16 bits each), the length of
 // the text (32 bits), then the whole of result, state area and memory of the text. Numbers have their low byte first.
 
+#![tactic(auto)]
+
 ghost use Rattle.std.specs.Prelude.{◌≤◌, length};
 
 use answers::tell;

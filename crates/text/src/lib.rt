@@ -1,6 +1,8 @@
 // The room of the printed text: the lines of a network (its corner `listing`) or of a refusal, built from a job, its result block and its
 // answer into memory that is lent. Job and block are only read.
 
+#![tactic(auto)]
+
 pub mod listing;
 pub mod template;
 
@@ -20,7 +22,7 @@ use rules::{Answer, LINK_SIZE, MOST_LINKS, RECORDS_OFFSET};
 pub const TEXT_ROOM: usize = 172718;
 
 // How a text ends: with so many bytes; without the room that is asked for; or without a result block of this job to print.
-#[derive(Drop)]
+#[derive(Clone, Copy)]
 pub enum Printed {
     Done { used: usize },
     Short,

@@ -23,7 +23,7 @@ fn transposed(x: u64) -> u64 {
 }
 
 // Four planes of a row: bit c of plane p is bit p of the state in character c. They tell letters apart, and digits.
-#[derive(Drop)]
+#[derive(Clone, Copy)]
 struct Planes {
     ones: u64,
     twos: u64,

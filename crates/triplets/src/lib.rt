@@ -2,6 +2,8 @@
 // all median vectors of a triplet were made (`settled`), by the characters in which rows differ (`mismatches`) and by guesses that are
 // checked (`hints`). It reads the state area and the distance area.
 
+#![tactic(auto)]
+
 pub mod hints;
 pub mod mismatches;
 pub mod settled;
@@ -22,7 +24,7 @@ pub const FOLLOWERS: usize = MOST_TYPES * FOLLOWERS_LINE;
 pub const NO_COST: usize = 200000;
 
 // Three types, ascending.
-#[derive(Drop)]
+#[derive(Clone, Copy)]
 pub struct Triplet {
     pub u: usize,
     pub v: usize,

@@ -42,7 +42,7 @@ fn is_made(
 }
 
 // The mismatches of a triplet's pairs.
-#[derive(Drop)]
+#[derive(Clone, Copy)]
 struct Pairs {
     uv: u64,
     uw: u64,

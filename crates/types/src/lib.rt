@@ -1,6 +1,8 @@
 // The room of types: how they lie in memory. A type's states lie in the lent state area, 64 bytes to a type, and its origin in an array
 // of kinds; here both are only read. In its corner (`sample`) the equal rows of a job become sampled types.
 
+#![tactic(auto)]
+
 pub mod sample;
 
 ghost use Rattle.std.specs.Prelude.{◌≡◌, ◌+◌, ◌*◌, ◌≤◌, length, replicate};

@@ -14,7 +14,7 @@ use memory::copy;
 use rules::{Answer, Kind, MOST_TYPES, Origin, ROW};
 
 // What the rows collapse to: how many types there are, and their kinds; or the refusal TYPES.
-#[derive(Drop)]
+#[derive(Clone, Copy)]
 pub struct Sample {
     pub answer: Answer,
     pub types: usize,

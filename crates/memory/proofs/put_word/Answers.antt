@@ -9,17 +9,12 @@ use lib.Seq.{sets-eq}
 use borrow.Author.Rules.{rules}
 use Rattle.rules.specs.Result.{words}
 use Rattle.memory.specs.Placed.{placed}
-use Rattle.memory.proofs.put_word.Statement.{statement}
-use Rattle.memory.proofs.put_word.Tie as tie
+use Rattle.memory.proofs.put_word.Goals as goal
 
-returns : tie.Need-returns
+pub returns : goal.returns
 unfolding placed words
 returns c =
     let a = c.args in
     let b = a.b.now in
     ap (λ (k : ℕ). set (set b a.i (a.x % 256)) k (a.x / 256)) (add-one a.i)
     ∙ sets-eq (a.x % 256 ∷ a.x / 256 ∷ []) b a.i (omega arith)
-
-pub put-word-spec : {M : Type 1} → statement M
-put-word-spec =
-    tie.close (tie.spec (λ c. search rules) (λ c. search rules) (λ c. search rules) (λ c. search rules) (λ c. search rules) (λ c. search rules) returns)

@@ -1,0 +1,15 @@
+-- `memory::copy` meets its contract: so many bytes of s stand in their places.
+use mathlib.Core.Path.{◌≡◌, refl, ap, ◌∙◌}
+use Prim.Native.Nat.{◌-◌, ◌≤◌}
+use native.Mathlib.Omega.{arith}
+use lib.ListN.{length, length-set, take}
+use lib.Seq.{take_all}
+use Rattle.memory.specs.Placed.{placed}
+use Rattle.memory.proofs.Placed.{placed-none, taken_more}
+use Rattle.memory.proofs.copy.Given as goal
+
+abbrev pub invariant-loop-i : goal.invariant-loop-i
+invariant-loop-i l = (l.i ≤ length l.s) × (length l.b ≡ length l.initial.b) × (l.b ≡ placed l.initial.b l.at (take l.i l.s))
+
+abbrev pub decreases-loop-i : goal.decreases-loop-i
+decreases-loop-i l = length l.s - l.i
