@@ -8,29 +8,26 @@ use Rattle.memory.proofs.Placed.{placed-padded}
 use Rattle.job.proofs.Reading.{RowEnds, row_ends, row_is}
 use Rattle.job.proofs.row.Goals as goal
 
-within : (c : tie.Start) → RowEnds c.args.job.now c.args.m c.args.k
-within c = row_ends c.args.job.now c.args.m c.args.k c.requires.0 c.requires.1 c.requires.2
-
 pub overflow_mul-from : goal.overflow_mul-from
-overflow_mul-from c = omega (arith, within c)
+overflow_mul-from c = omega (arith, (row_ends c.args.job.now c.args.m c.args.k c.requires.0 c.requires.1 c.requires.2))
 
 pub overflow_add-from : goal.overflow_add-from
-overflow_add-from c = omega (arith, within c)
+overflow_add-from c = omega (arith, (row_ends c.args.job.now c.args.m c.args.k c.requires.0 c.requires.1 c.requires.2))
 
 pub overflow_mul-from-2 : goal.overflow_mul-from-2
-overflow_mul-from-2 c = omega (arith, within c)
+overflow_mul-from-2 c = omega (arith, (row_ends c.args.job.now c.args.m c.args.k c.requires.0 c.requires.1 c.requires.2))
 
 pub overflow_add-from-2 : goal.overflow_add-from-2
-overflow_add-from-2 c = omega (arith, within c)
+overflow_add-from-2 c = omega (arith, (row_ends c.args.job.now c.args.m c.args.k c.requires.0 c.requires.1 c.requires.2))
 
 pub overflow_add-to : goal.overflow_add-to
-overflow_add-to c = omega (arith, within c)
+overflow_add-to c = omega (arith, (row_ends c.args.job.now c.args.m c.args.k c.requires.0 c.requires.1 c.requires.2))
 
 pub slice_bounds-copy-end : goal.slice_bounds-copy-end
-slice_bounds-copy-end c = omega (arith, within c)
+slice_bounds-copy-end c = omega (arith, (row_ends c.args.job.now c.args.m c.args.k c.requires.0 c.requires.1 c.requires.2))
 
 pub copy-requires : goal.copy-requires
-copy-requires c = simp length-take (omega (arith, within c))
+copy-requires c = simp length-take (omega (arith, (row_ends c.args.job.now c.args.m c.args.k c.requires.0 c.requires.1 c.requires.2)))
 
 pub returns : goal.returns
 returns c =
