@@ -1,0 +1,15 @@
+-- `distances::measure_one` meets its contract: the cells of type j are passed line by line.
+use Prim.Native.Nat.{◌+◌, ◌-◌}
+use native.Mathlib.Omega.{arith}
+use Rattle.distances.specs.Area.{CellsWritten, New, stored_apart}
+use Rattle.distances.proofs.Area.{Passed, by_line, cell-passed, all-passed}
+use Rattle.distances.proofs.measure_one.Goals as goal
+
+pub distance-requires : goal.distance-requires
+distance-requires c = let p = c.requires in (p.0, omega arith, p.2)
+
+pub loop-i-preserved : goal.loop-i-preserved
+loop-i-preserved c = cell-passed c.loop-i.invariant (omega arith) (omega arith) c.distance.ensures
+
+pub returns : goal.returns
+returns c = all-passed c.loop-i.invariant (omega arith)
