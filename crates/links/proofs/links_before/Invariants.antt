@@ -1,0 +1,11 @@
+-- `links::links_before` meets its contract: the marks of the types passed are counted.
+use Prim.Native.Nat.{◌-◌}
+use native.Mathlib.Omega.{arith}
+use Rattle.links.proofs.Marks.{Counted, counted_none, counted-more, counted-all}
+use Rattle.links.proofs.links_before.Given as goal
+
+abbrev pub invariant-loop-j : goal.invariant-loop-j
+invariant-loop-j l = Counted l.area l.i l.n l.j l.links
+
+abbrev pub decreases-loop-j : goal.decreases-loop-j
+decreases-loop-j l = l.n - l.j

@@ -1,0 +1,17 @@
+-- `links::mark` meets its contract: the mirror cells are passed line by line. Each is read before it is written.
+use Prim.Native.Nat.{◌-◌}
+use native.Mathlib.Omega.{arith}
+use Rattle.distances.specs.Area.{CellsWritten}
+use Rattle.distances.proofs.Area.{Passed, by_line, cell-kept, part-passed, all-passed}
+use Rattle.spans.specs.Tree.{Mirror}
+use Rattle.links.specs.Marks.{mark}
+use Rattle.links.proofs.mark.Goals as goal
+
+pub loop-j-preserved : goal.loop-j-preserved
+loop-j-preserved c =
+    let m = c in
+    let w = m.loop-j.invariant in
+    part-passed w (omega arith) m.mark_line.ensures (λ a b t. rw (cell-kept w (omega arith) a b (omega arith) (omega arith)))
+
+pub returns : goal.returns
+returns c = all-passed c.loop-j.invariant (omega arith)

@@ -1,0 +1,16 @@
+-- `links::mark_line` meets its contract: the cells of the line are passed column by column. Each is read before it is written.
+use Prim.Native.Nat.{◌-◌}
+use native.Mathlib.Omega.{arith}
+use Rattle.distances.specs.Area.{CellsWritten, Line}
+use Rattle.distances.proofs.Area.{Passed, by_column, cell-kept, cell-passed, all-passed}
+use Rattle.links.specs.Marks.{mark}
+use Rattle.links.proofs.mark_line.Goals as goal
+
+pub loop-i-preserved : goal.loop-i-preserved
+loop-i-preserved c =
+    let l = c in
+    let was = cell-kept l.loop-i.invariant (omega arith) l.args.j l.loop-i.i (omega arith) (omega arith) in
+    cell-passed l.loop-i.invariant (omega arith) (omega arith) (rw was at c.mark_of.ensures)
+
+pub returns : goal.returns
+returns c = all-passed c.loop-i.invariant (omega arith)

@@ -1,0 +1,12 @@
+-- `spans::join_line` meets its contract: the new reach is stored.
+use mathlib.Core.Path.{refl}
+use Prim.Native.Nat.{◌-◌}
+use native.Mathlib.Omega.{arith}
+use Rattle.spans.proofs.Turns.{Reaching, reaching_more, reaching_all}
+use Rattle.spans.proofs.join_line.Given as goal
+
+abbrev pub invariant-loop-u : goal.invariant-loop-u
+invariant-loop-u l = Reaching (λ old far. far) l.v l.wide l.step l.u l.initial.reach l.reach l.initial.spans l.spans
+
+abbrev pub decreases-loop-u : goal.decreases-loop-u
+decreases-loop-u l = l.wide - l.u

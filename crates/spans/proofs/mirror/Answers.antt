@@ -1,0 +1,16 @@
+-- `spans::mirror` meets its contract: the mirror cells are passed line by line.
+use Prim.Native.Nat.{◌-◌}
+use native.Mathlib.Omega.{arith}
+use Rattle.distances.specs.Area.{CellsWritten}
+use Rattle.distances.proofs.Area.{Passed, by_line, all-passed}
+use Rattle.spans.specs.Tree.{Mirror, opposite}
+use Rattle.spans.proofs.Turns.{mirror_passed}
+use Rattle.spans.proofs.mirror.Goals as goal
+
+pub loop-j-preserved : goal.loop-j-preserved
+loop-j-preserved c =
+    let m = c in
+    mirror_passed m.loop-j.invariant (omega arith) (omega arith) m.mirror_line.ensures
+
+pub returns : goal.returns
+returns c = all-passed c.loop-j.invariant (omega arith)
