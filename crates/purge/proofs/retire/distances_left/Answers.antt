@@ -1,0 +1,22 @@
+-- `retire::distances_left` meets its contract: the cells are passed line by line.
+use Prim.Native.Nat.{◌-◌}
+use native.Mathlib.Omega.{arith}
+use Rattle.distances.specs.Area.{CellsWritten}
+use Rattle.distances.proofs.Area.{Passed, by_line, all-passed}
+use Rattle.purge.specs.Left.{Among, squeezed}
+use Rattle.purge.proofs.retire.Squeezed.{line-squeezed}
+use Rattle.purge.proofs.retire.distances_left.Goals as goal
+
+pub line_left-requires : goal.line_left-requires
+line_left-requires c =
+    let p = c.requires in
+    (p.0, c.loop-a-test.true, p.1, omega (arith, c.loop-a.invariant.size))
+
+pub loop-a-preserved : goal.loop-a-preserved
+loop-a-preserved c =
+    let t = c in
+    let p = t.requires in
+    line-squeezed p.0 p.1 t.loop-a.invariant t.loop-a-test.true c.line_left.ensures
+
+pub returns : goal.returns
+returns c = all-passed c.loop-a.invariant (omega arith)

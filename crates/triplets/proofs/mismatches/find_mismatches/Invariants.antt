@@ -1,0 +1,13 @@
+-- `mismatches::find_mismatches` meets its contract: from character c on the bits are those asked for.
+use mathlib.Core.Path.{refl}
+use native.Mathlib.Omega.{arith}
+use Rattle.memory.proofs.Digits.{Spelt, none_spelt, one_spelt, all_spelt}
+use Rattle.triplets.specs.Mismatches.{bit, differ}
+use Rattle.triplets.proofs.mismatches.Mismatches.{one-bit-fits}
+use Rattle.triplets.proofs.mismatches.find_mismatches.Given as goal
+
+abbrev pub invariant-loop-c : goal.invariant-loop-c
+invariant-loop-c l = Spelt 2 (λ k. bit (differ l.states l.i l.j k)) l.m l.c l.bits
+
+abbrev pub decreases-loop-c : goal.decreases-loop-c
+decreases-loop-c l = l.c
