@@ -1,0 +1,18 @@
+-- `fasta::put_states` meets its contract: at byte i the states before it stand there.
+use mathlib.Core.Path.{◌≡◌, refl, ◌∙◌}
+use Prim.Native.Nat.{◌-◌, ◌≤◌}
+use native.Mathlib.Omega.{arith}
+use lib.ListN.{length}
+use Rattle.graph.specs.Below.{gather}
+use Rattle.fasta.specs.Lines.{line_start}
+use Rattle.fasta.specs.Sequences.{states}
+use Rattle.memory.specs.Placed.{Follows}
+use Rattle.memory.proofs.Follows.{follows-none, follows-more, follows-room}
+use Rattle.fasta.proofs.Written.{state_at}
+use Rattle.fasta.proofs.put_states.Given as goal
+
+abbrev pub invariant-loop-i : goal.invariant-loop-i
+invariant-loop-i l = (l.line ≡ line_start l.text l.i) × (l.i ≤ length l.text) × (length l.job ≡ length l.initial.job) × Follows l.initial.job l.at (gather l.i (state_at l.text)) l.job l.to
+
+abbrev pub decreases-loop-i : goal.decreases-loop-i
+decreases-loop-i l = length l.text - l.i

@@ -1,0 +1,12 @@
+-- `medians::median` meets its contract: after c characters the first c states stand in the row.
+use mathlib.Core.Path.{refl}
+use Prim.Native.Nat.{◌-◌}
+use native.Mathlib.Omega.{arith}
+use Rattle.medians.proofs.Taken.{Taken, none-taken, one-taken, all-taken}
+use Rattle.medians.proofs.median.Given as goal
+
+abbrev pub invariant-loop-c : goal.invariant-loop-c
+invariant-loop-c l = Taken l.states l.x l.y l.z l.c l.row
+
+abbrev pub decreases-loop-c : goal.decreases-loop-c
+decreases-loop-c l = 64 - l.c

@@ -1,0 +1,16 @@
+-- `sweep::at_centre` meets its contract: what the triplets with the lower types passed give is swept.
+use mathlib.Core.Path.{sym, ◌∙◌}
+use Prim.Native.Nat.{◌*◌, ◌+◌, ◌-◌, ◌<◌}
+use native.Mathlib.Omega.{arith}
+use Rattle.sweep.specs.Candidate.{WithFirst, AtCentre, Sweepable}
+use Rattle.sweep.specs.Floors.{Passed}
+use Rattle.sweep.proofs.Walk.{Walk, walk_first, walk-next, walk-less, walk-done, few, follower_first, follower_next, which-first, ready_as, ready_on, passed-more, centre_none}
+use Rattle.sweep.proofs.at_centre.Given as goal
+
+abbrev pub invariant-loop-a : goal.invariant-loop-a
+invariant-loop-a l =
+    Walk l.area l.n l.c 0 l.a
+    × Passed l.weights l.states l.area l.size l.initial.met (AtCentre l.weights l.states l.area l.n l.initial.met.search.made l.c l.a) l.initial.mismatches l.initial.gathered l.mismatches l.gathered l.guesses l.met
+
+abbrev pub decreases-loop-a : goal.decreases-loop-a
+decreases-loop-a l = l.n - l.a

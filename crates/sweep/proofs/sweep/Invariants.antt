@@ -1,0 +1,21 @@
+-- `sweep::sweep` meets its contract: what is met at the types passed is swept, and each floor found anew is one.
+use mathlib.Core.Path.{◌≡◌, sym, ◌∙◌}
+use mathlib.Core.Logic.{⊎_elim}
+use Prim.Native.Nat.{◌-◌, ◌≤◌, ◌<◌}
+use native.Mathlib.Omega.{arith}
+use Rattle.medians.specs.Swept.{Swept}
+use Rattle.sweep.specs.Candidate.{Candidate, Everywhere, TablesKept}
+use Rattle.sweep.specs.Floors.{Floors}
+use Rattle.sweep.proofs.Floors.{floors-one}
+use Rattle.sweep.proofs.Walk.{few, kept_then, kept-none, still_ready, everywhere-none, everywhere-more, everywhere-passed}
+use Rattle.sweep.proofs.sweep.Given as goal
+
+abbrev pub invariant-loop-c : goal.invariant-loop-c
+invariant-loop-c l =
+    (l.c ≤ l.size.types)
+    × TablesKept l.states l.size.width l.initial.search.made l.initial.mismatches l.mismatches l.guesses
+    × Swept (Everywhere l.weights l.states l.area l.size.types l.initial.search.made l.c) (Candidate l.weights l.states l.area l.size.types l.initial.search.made) l.initial.gathered l.initial.search l.gathered l.search
+    × Floors l.weights l.states l.area l.size.types l.initial.search.made l.floors
+
+abbrev pub decreases-loop-c : goal.decreases-loop-c
+decreases-loop-c l = l.size.types - l.c
