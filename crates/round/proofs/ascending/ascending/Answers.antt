@@ -1,0 +1,29 @@
+-- `ascending::ascending` meets its contract: the first k rows are sorted.
+use mathlib.Core.Path.{◌≡◌, ◌∙◌}
+use Prim.Native.Nat.{ℕ, ◌-◌, ◌≤◌}
+use native.Mathlib.Omega.{arith}
+use lib.ListN.{length}
+use Rattle.rules.specs.Job.{Bytes}
+use Rattle.memory.specs.Placed.{placed}
+use Rattle.types.specs.State.{stored_at, laid}
+use Rattle.round.specs.Sorted.{sorted}
+use Rattle.round.proofs.ascending.Inserted.{sorted_none, sorted_more}
+use Rattle.round.proofs.ascending.ascending.Goals as goal
+
+pub loop-k-init : goal.loop-k-init
+loop-k-init c = record { size = omega arith; read = omega arith; is = sorted_none _ }
+
+pub loop-k-preserved : goal.loop-k-preserved
+loop-k-preserved c =
+    let l = c.loop-k in
+    record {
+      size = omega arith;
+      read = omega arith;
+      is = c.insert.ensures ∙ sorted_more c.args.rows.now l.k (omega arith) l.rows _ l.invariant.is c.row_at-row.ensures;
+    }
+
+pub returns : goal.returns
+returns c =
+    let l = c.loop-k in
+    let e : l.k ≡ c.args.count = omega arith in
+    rw e at l.invariant.is

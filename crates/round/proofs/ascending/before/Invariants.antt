@@ -1,0 +1,17 @@
+-- `ascending::before` meets its contract: every byte passed was equal.
+use mathlib.Core.Path.{◌≡◌, sym, ap, ◌∙◌}
+use Prim.Native.Nat.{ℕ, ◌+◌, ◌*◌, ◌-◌, ◌≤◌, ◌<◌}
+use native.Mathlib.Omega.{arith}
+use lib.Dec.{ltb}
+use lib.ListN.{get_or}
+use borrow.Author.Count.{below_none, below_more}
+use Rattle.types.specs.State.{stored_at}
+use Rattle.types.proofs.State.{length-stored_at, stored_at-state, stored_at-is}
+use Rattle.round.proofs.ascending.Compared.{before_same, differ-at}
+use Rattle.round.proofs.ascending.before.Given as goal
+
+abbrev pub invariant-loop-c : goal.invariant-loop-c
+invariant-loop-c l = (l.c ≤ 64) × ((k : ℕ) → k < l.c → get_or l.rows (64 * l.i + k) 0 ≡ get_or l.row k 0)
+
+abbrev pub decreases-loop-c : goal.decreases-loop-c
+decreases-loop-c l = 64 - l.c

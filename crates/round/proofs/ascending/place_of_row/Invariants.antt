@@ -1,0 +1,17 @@
+-- `ascending::place_of_row` meets its contract: all rows passed stand before the row.
+use mathlib.Core.Path.{◌≡◌, sym, ap, ◌∙◌}
+use mathlib.Core.Bool.{true, not}
+use Prim.Native.Nat.{ℕ, ◌-◌, ◌≤◌, ◌<◌}
+use native.Mathlib.Omega.{arith}
+use borrow.Author.Count.{below_none, below_more}
+use borrow.Author.Tests.{not-false}
+use Rattle.graph.proofs.Below.{first-is}
+use Rattle.types.specs.State.{stored_at}
+use Rattle.round.specs.Sorted.{before}
+use Rattle.round.proofs.ascending.place_of_row.Given as goal
+
+abbrev pub invariant-loop-i : goal.invariant-loop-i
+invariant-loop-i l = (l.i ≤ l.count) × ((k : ℕ) → k < l.i → before (stored_at l.rows k) l.row ≡ true)
+
+abbrev pub decreases-loop-i : goal.decreases-loop-i
+decreases-loop-i l = l.count - l.i
