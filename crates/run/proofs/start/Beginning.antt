@@ -6,8 +6,6 @@ use Prim.Native.Nat.{ℕ, ◌+◌, ◌-◌, ◌≤◌}
 use native.Mathlib.Omega.{arith}
 use native.Mathlib.Decide.{dec_lt}
 use lib.ListN.{length, replicate, length-map, length-replicate}
-use types.Run.{OneOf, miss}
-use denote.Enum.Declared.{tag_of}
 use Rattle.graph.proofs.Below.{length-table}
 use Rattle.rules.specs.Answers.{number, when◌refuse◌else◌, passed}
 use Rattle.rules.specs.Job.{Bytes, width, epsilon, weights, job_rows, checked}
@@ -16,7 +14,6 @@ use Rattle.rules.specs.Run.{start}
 use Rattle.rules.specs.Call.{padded}
 use Rattle.rules.specs.declared.Answer.{Answer}
 use Rattle.rules.specs.declared.Answer.TheVariants.{Types}
-use Rattle.rules.specs.contracts.Answer.{the_type}
 use Rattle.rules.proofs.Job.{Passed, passed_is, row-widths, length-weights, weight-within}
 use Rattle.rules.proofs.Types.{few-sampled}
 use Rattle.rules.proofs.Sound.{rows-sampled}
@@ -128,9 +125,6 @@ begun-none job {lent} {cells} many zeros zeros' = record {
 
 -- TYPES is given only if there are too many types. Where an answer that could be TYPES is, by its place among the answers, any other,
 -- they are not too many.
-abbrev pub others : List ℕ
-others = 0 ∷ 1 ∷ 2 ∷ 3 ∷ 4 ∷ 5 ∷ 6 ∷ 7 ∷ 9 ∷ 10 ∷ []
-
 module _ (job : Bytes) {a : Answer} (answered : a ≡ (when has_too_many (job_rows job) refuse Types (row129 (job_rows job)) else passed)) where
   pub many-told : {place : ℕ} → a ≡ Types place → has_too_many (job_rows job) ≡ true
   many-told told = go (has_too_many (job_rows job)) (sym answered ∙ told)
@@ -139,12 +133,12 @@ module _ (job : Bytes) {a : Answer} (answered : a ≡ (when has_too_many (job_ro
       go true e = refl
       go false e = absurd (omega (arith, ap number e))
 
-  pub few-told : OneOf others (tag_of the_type a) → has_too_many (job_rows job) ≡ false
+  pub few-told : ((place : ℕ) → a ≡ Types place → ⊥) → has_too_many (job_rows job) ≡ false
   few-told other = go (has_too_many (job_rows job)) (rw answered at other)
     where
-      go : (t : Bool) → OneOf others (tag_of the_type (when t refuse Types (row129 (job_rows job)) else passed)) → t ≡ false
-      go true one = absurd (miss others 8 tt one)
-      go false one = refl
+      go : (t : Bool) → ((place : ℕ) → (when t refuse Types (row129 (job_rows job)) else passed) ≡ Types place → ⊥) → t ≡ false
+      go true none = absurd (none _ refl)
+      go false none = refl
 
 -- However a run begins, its types can be purged: there are few of them, and epsilon fits 16 bits.
 pub begun-small : {job states : Bytes} {lent cells : ℕ} {area : List ℕ} {r : Ended} → Begun job lent cells states area r → epsilon job ≤ 65535 →
