@@ -13,7 +13,7 @@ use Prim.Native.Nat.{ℕ, zero, suc, ◌<◌, ◌^◌}
 use mathlib.Core.Option.{some}
 use mathlib.Core.List.{List, [], ◌∷◌, ◌++◌}
 use seplogic.Ra.Ura.{Ura}
-use seplogic.Ra.TreeShare.{full_share}
+use base.Fraction.{full_share}
 use mir.Syntax.{Sym, Ty, Tys, Lifetime, Mutability, ty_ref, ty_struct, ty_unit, w64, Step as PStep, place, deref, field, Opd as Operand, copy}
 use mir.Syntax.{addr_of, aggregate, assign, seq, Body, Local, local}
 use mir.Val.{Val, Vals, vint, vptr, vstruct}

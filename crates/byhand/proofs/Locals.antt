@@ -6,7 +6,7 @@ use Prim.Native.Nat.{ℕ}
 use lib.Dec.{T}
 use lib.ListN.{take, drop as behind, take-append-drop}
 use seplogic.Ra.Ura.{Ura}
-use seplogic.Ra.TreeShare.{full_share}
+use base.Fraction.{full_share}
 use mir.Syntax.{Ty, Local, local, Fn}
 use mir.Val.{Val, WT, has_ty}
 use base.Logic.{SProp, ent, id⊢, via, comm∗, mono∗, mono_l, mono_r}

@@ -1,6 +1,8 @@
 -- A slice that is borrowed by `&mut` can be lent on as a `&`, for a lifetime κ' of a call alone, and be used again after it, as it was.
--- `lends_shared` makes the `&` that is handed on, under a name of its own, and `LentShared` is what the lender keeps meanwhile. Once κ' has
--- ended, `comes_back-shared` gives the lender its own borrow again, and the token with it.
+-- `lends_shared` makes the `&` that is handed on, and `LentShared` is what the lender keeps meanwhile. Once κ' has ended, `comes_back-shared`
+-- gives the lender its own borrow again, and the token with it.
+-- A `&` is made with tokens ts, which come back at once: their lifetimes end no later than κ', nor than l, at which the elements are shared out.
+-- A type that can be copied is shared out at any l.
 use mathlib.Core.Path.{refl}
 use Prim.Native.Nat.{ℕ}
 use mathlib.Core.List.{List, [], ◌∷◌}
@@ -8,25 +10,29 @@ use lib.ListN.{length}
 use seplogic.Ra.Ura.{Ura}
 use mir.Syntax.{Lifetime, erased}
 use mir.Val.{Val}
-use base.Logic.{ent, sep, ex}
-use base.Fml.{Lft, GName, Share, Fml, flft, fdead}
-use types.Logic.{Logic, sem}
-use types.Kit.{‵, ◌⊛◌, some, later, ◌$◌, ◌∵◌, !, qed, use2, drop, split, pick}
-use types.Kit.{fsplit, fjoin, await, updating, now as at_once, show, done}
-use denote.RattleType.{RattleType}
+use base.Logic.{ent, sep}
+use base.Fml.{Lft, GName, Share, Fml, Incl, flft, fdead}
+use ghost.Rules.{Toks, span}
+use types.Logic.{Logic, sem, lfts}
+use types.Kit.{Item, mean, ‵, raw, ◌⊛◌, later, ◌$◌, ◌∵◌, !, qed, use2, use3, drop, move, split, join}
+use types.Kit.{fsplit, fjoin, await, updating, now as at_once, done}
+use denote.RattleType.{RattleType, RowLaws}
 use denote.Shadow.{pure_l, pure_i}
-use denote.Ref.{MutBor}
+use denote.Shares.{Shares}
+use denote.Ref.{Bor, MutBor, as_bor}
 use denote.Slice.{slice_val, MutSlice, ShrSlice, shr_slice_at, mut_slice_at, room}
 use borrow.Table.Owned as O
-use borrow.Rule.Slice.Reshare.{kept_s, sl-reshare, sl_reshare_back}
+use borrow.Rule.Array.Share.{share_cells}
+use borrow.Rule.Slice.Reshare.{kept_s, sl_reshare_as, sl_reshare_back}
 
 -- A slice of R at (b, o), which the lender holds at κ under the name γ.
 module _ (R : RattleType) (κ κ' : Lft) (q : Share) (γ : GName) (b o : ℕ) where
-  abbrev at-list : GName → List R.Denot → MutBor (List R.Denot)
-  at-list δ ys = record { ref_ptr = (b, o); ghost_name = δ; now = ys }
+  abbrev at-list : List R.Denot → MutBor (List R.Denot)
+  at-list ys = record { ref_ptr = (b, o); ghost_name = γ; now = ys }
 
-  abbrev pub LentShared : List R.Denot → Fml
-  LentShared ys = kept_s R κ q κ' γ ys b o
+  module _ {M : Type 1} {𝓤 : Ura M} (𝓛 : Logic 𝓤) where
+    abbrev pub LentShared : List R.Denot → Item 𝓤
+    LentShared ys = kept_s 𝓛 R κ q κ' γ ys b o
 
   module _ {M : Type 1} {𝓤 : Ura M} (𝓛 : Logic 𝓤) (ℓ ℓ' : Lifetime) (ys : List R.Denot) where
     open 𝓛 use {H, A}
@@ -34,25 +40,30 @@ module _ (R : RattleType) (κ κ' : Lft) (q : Share) (γ : GName) (b o : ℕ) wh
     abbrev vals : List Val
     vals = slice_val (b, o) (length ys) ∷ []
 
-    -- what is owned of the slice: the lender's borrow, and the one that is handed on, under a name
+    -- what is owned of the slice: the lender's borrow, and the one that is handed on
     abbrev Own : Fml
-    Own = (MutSlice ℓ κ R).own_val (at-list γ ys) vals
+    Own = (MutSlice ℓ κ R).own_val (at-list ys) vals
 
-    abbrev Own' : GName → Fml
-    Own' δ = (ShrSlice ℓ' κ' R).own_val (at-list δ ys) vals
+    abbrev Own' : Fml
+    Own' = (ShrSlice ℓ' κ' R).own_val (as_bor (at-list ys)) vals
 
-    pub lends_shared : ent 𝓤 (sep 𝓤 (sem 𝓛 Own) (A.lft κ q)) (H.⇛ (ex 𝓤 (λ (δ : GName). sep 𝓤 (sem 𝓛 (Own' δ)) (sem 𝓛 (LentShared ys)))))
-    lends_shared =
-        qed 𝓛 (‵ Own ∷ ‵ (flft κ q) ∷ []) ∵ updating ! $
-        fsplit ! $ pure_l ! (shr_slice_at R (at-list γ ys) vals) (λ p. pure_i ! (room R (length ys)) (tt, tt) p.1 $ fjoin ! $
-        use2 𝓛 (later (some (λ (δ : GName). ‵ ((O.ShrSlice erased κ' R).own (at-list δ ys)) ⊛ ‵ (LentShared ys)))) (sl-reshare 𝓛 R κ q κ' b o γ ys) $
-        await ! tt $ pick ! (λ δ. split ! $
-        -- [what the `&` owns apart from its machine value; what is kept]
-        fsplit ! $ drop ! $ pure_i ! (shr_slice_at R (at-list δ ys) vals) (tt, (tt, tt)) p $ fjoin ! $
-        at_once ! $ show ! (λ (ε : GName). sep 𝓤 (sem 𝓛 (Own' ε)) (sem 𝓛 (LentShared ys))) δ $ done !))
+    pub lends_shared : RowLaws R → (l : Lft) → Shares 𝓛 R l → (ts : Toks) → Incl (span ts) l → Incl (span ts) κ' →
+        ent 𝓤 (sep 𝓤 (sem 𝓛 Own) (sep 𝓤 (A.lft κ q) (lfts 𝓛 ts)))
+        (H.⇛ (sep 𝓤 (sem 𝓛 Own') (sep 𝓤 (mean 𝓛 (LentShared 𝓛 ys)) (lfts 𝓛 ts))))
+    lends_shared laws l shares ts within within' =
+        let X = lfts 𝓛 ts in
+        let shared = as_bor (at-list ys) in
+        qed 𝓛 (‵ Own ∷ ‵ (flft κ q) ∷ raw X ∷ []) ∵ updating ! $
+        fsplit ! $ pure_l ! (mut_slice_at R (at-list ys) vals) (λ p. pure_i ! (room R (length ys)) (tt, tt) p.1 $ fjoin ! $
+        use3 𝓛 (later (‵ ((O.ShrSlice erased κ' R).own_val shared) ⊛ (LentShared 𝓛 ys ⊛ raw X)))
+        (sl_reshare_as 𝓛 R κ q κ' b o γ X (λ zs has. share_cells 𝓛 R κ' b laws l shares ts within within' zs o has) ys) $
+        await ! tt $ split ! $
+        -- [what the `&` owns apart from its machine value; what is kept and the tokens]
+        fsplit ! $ drop ! $ pure_i ! (shr_slice_at R shared vals) (tt, (tt, tt)) p $ fjoin ! $ move ! (1 ∷ []) $ split ! $
+        move ! (2 ∷ 0 ∷ 1 ∷ []) $ at_once ! $ done !)
 
-    pub comes_back-shared : ent 𝓤 (sep 𝓤 (A.dead κ') (sem 𝓛 (LentShared ys))) (H.⇛ (sep 𝓤 (sem 𝓛 Own) (A.lft κ q)))
+    pub comes_back-shared : ent 𝓤 (sep 𝓤 (A.dead κ') (mean 𝓛 (LentShared 𝓛 ys))) (H.⇛ (sep 𝓤 (sem 𝓛 Own) (A.lft κ q)))
     comes_back-shared =
-        qed 𝓛 (‵ (fdead κ') ∷ ‵ (LentShared ys) ∷ []) ∵ updating ! $
-        use2 𝓛 (later (‵ ((O.MutSlice erased κ R).own (at-list γ ys)) ⊛ ‵ (flft κ q))) (sl_reshare_back 𝓛 R κ q κ' b o γ ys) $ await ! tt $ split ! $
-        fsplit ! $ pure_l ! (room R (length ys)) (λ g. pure_i ! (mut_slice_at R (at-list γ ys) vals) (tt, (tt, tt)) (refl, g) $ fjoin ! $ at_once ! $ done !)
+        qed 𝓛 (‵ (fdead κ') ∷ LentShared 𝓛 ys ∷ []) ∵ updating ! $
+        use2 𝓛 (later (‵ ((O.MutSlice erased κ R).own_val (at-list ys)) ⊛ ‵ (flft κ q))) (sl_reshare_back 𝓛 R κ q κ' b o γ ys) $ await ! tt $ split ! $
+        fsplit ! $ pure_l ! (room R (length ys)) (λ g. pure_i ! (mut_slice_at R (at-list ys) vals) (tt, (tt, tt)) (refl, g) $ fjoin ! $ at_once ! $ done !)
