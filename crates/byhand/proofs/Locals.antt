@@ -71,12 +71,12 @@ module _ {M : Type 1} {𝓤 : Ura M} {𝓛 : Logic 𝓤} {K : Type 0} where
       Step K 𝓛 (raw (⋆ 𝓛 (holding (env ls bs) vs)) ∷ Γ) G (raw (⋆ 𝓛 (rooms (env ls bs))) ∷ Γ) (passes (env ls bs) vs G)
   passes-all t ls bs [] fit = pass0 t
   passes-all t [] bs (v ∷ vs) fit = absurd fit
-  passes-all t (local τ h ∷ ls) bs (v ∷ vs) fit =
+  passes-all t {Γ = Γ} {G = G} (local τ h ∷ ls) bs (v ∷ vs) fit =
       let E = env ls bs.1 in
       let room : Item 𝓤 = Room (τ, bs.0) in
       let cell : Item 𝓤 = Holds (τ, bs.0) v in
       step (λ s. use1 𝓛 (room ⊛ raw (⋆ 𝓛 (rooms E))) (pop 𝓛 room (rooms E)) $ split t $ pass1 t (init t 0 refl fit.0) $ move t (1 ∷ []) $
-      passes-all t ls bs.1 vs fit.1 $ move t (1 ∷ 0 ∷ []) $ use2 𝓛 (raw (⋆ 𝓛 (cell ∷ holding E vs))) (push 𝓛 cell (holding E vs)) $ s)
+      passes-all t {Γ = cell ∷ Γ} ls bs.1 vs fit.1 $ move t (1 ∷ 0 ∷ []) $ use2 𝓛 (raw (⋆ 𝓛 (cell ∷ holding E vs))) (push 𝓛 cell (holding E vs)) $ s)
 
   takes_all : K → {Γ : List (Item 𝓤)} {G : Goal 𝓤 H} (ls : List Local) (bs : Blocks ls) (vs : List Val) → Takes ls vs →
       Step K 𝓛 (raw (⋆ 𝓛 (all-holding (env ls bs) vs)) ∷ Γ) G (raw (⋆ 𝓛 (rooms (env ls bs))) ∷ Γ) (params' (env ls bs) vs G)

@@ -8,7 +8,7 @@ use mir.Val.{Val}
 use base.Logic.{ent, sep, emp, id⊢, via, comm∗, mono∗, mono_r}
 use base.Fml.{ftrue}
 use prog.Model.{Model}
-use prog.Routine.{Name, Env}
+use prog.Routine.{Callee, Env}
 use prog.Wp.{WpFn, Closed}
 use types.Logic.{Logic, sem}
 use sound.WpLaws.{WpFn-mono}
@@ -20,7 +20,7 @@ use denote.RattleType.{RattleType, Denots, Valss}
 use denote.Laws.{Is, Ises, Are, Tells, Tellss, Spells, valss}
 use denote.Plain.{uint_vals, uint_Tells}
 use denote.Builtin.{usize}
-use denote.Slice.{shr_slice_vals}
+use denote.Slice.{shr_slice_vals, mut_slice_vals}
 use denote.Signature.{Slot, Signature, plain, mut_slice, shr_slice, type_at, types_at}
 use denote.Exit.{Kept, yes, Last, left}
 use denote.Triple.End.{Kepts, Fins}
@@ -63,7 +63,7 @@ module _ {n : ℕ} where
     lent_param = record {
       stay = stay_slice (j ∷ []) ok (plain (λ _. R));
       goes = λ 𝓛. Goes-slice 𝓛 n j ok (plain (λ _. R));
-      vals = λ κs. shr_slice_vals;
+      vals = λ κs. mut_slice_vals;
       tells = λ κs x vs p. p.0.0;
     }
 
@@ -71,7 +71,7 @@ module _ {n : ℕ} where
     given_param = record {
       stay = gave_slice (j ∷ []) ok (plain (λ _. R));
       goes = λ 𝓛. Goes-gave_slice 𝓛 n j ok (plain (λ _. R));
-      vals = λ κs. shr_slice_vals;
+      vals = λ κs. mut_slice_vals;
       tells = λ κs x vs p. p.0.0;
     }
 
@@ -147,7 +147,7 @@ module _ {M : Type 1} {𝓤 : Ura M} {𝓛 : Logic 𝓤} {K : Type 0} where
       move ! (2 ∷ 3 ∷ 1 ∷ []) $ group ! 3 $ done !)))
 
 module _ {M : Type 1} {𝓤 : Ura M} (𝓛 : Logic 𝓤) (𝓜 : Model 𝓤 𝓛.H) (𝓡 : Running 𝓤 𝓛.H 𝓜) (T : Ended) (ps : Params T) (c : Clauses 𝓤 T)
-    (γ : Env) (k : Name) (f : Fn) where
+    (γ : Env) (k : Callee) (f : Fn) where
   open 𝓛 use {H}
 
   abbrev S : Signature

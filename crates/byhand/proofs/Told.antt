@@ -8,7 +8,7 @@ use mathlib.Core.Path.{◌≡◌}
 use Prim.Native.Nat.{ℕ, suc, zero}
 use mathlib.Core.List.{List, [], ◌∷◌, ◌++◌}
 use seplogic.Ra.Ura.{Ura}
-use mir.Syntax.{Name, Place, Opd as Operand, seq, call, Body}
+use mir.Syntax.{Callee, Place, Opd as Operand, seq, call, Body}
 use mir.Val.{Val}
 use base.Logic.{SProp, ent, sep, emp, id⊢, via, comm∗, mono∗, mono_l, mono_r, emp∗, snd∗}
 use base.Fml.{Fml, fsep, feq, flft}
@@ -39,11 +39,11 @@ module _ {M : Type 1} {𝓤 : Ura M} where
 
   abbrev pub parts : (Ts : List RattleType) → Denots Ts → Valss Ts → List (Item 𝓤)
   parts [] a vss = []
-  parts (T ∷ Ts) a vss = ‵ (T.own a.0 vss.0) ∷ parts Ts a.1 vss.1
+  parts (T ∷ Ts) a vss = ‵ (T.own_val a.0 vss.0) ∷ parts Ts a.1 vss.1
 
   abbrev end : {X : Type 0} (e : Exit X) (x : X) → Last e x → List (Item 𝓤) → List (Item 𝓤)
   end unchanged x w Δ = Δ
-  end (leaves L l S s) x w Δ = ‵ (l x w) ∷ Δ
+  end (leaves L l S s r₀) x w Δ = ‵ (l x w) ∷ Δ
 
   abbrev pub ends : {n : ℕ} (κs : Lfts n) (ss : List (Slot n)) (ks : Kepts ss) (a : Denots (types_at ss κs)) → Fins κs ss ks a → List (Item 𝓤)
   ends κs [] ks a ws = []
@@ -66,16 +66,16 @@ module _ {M : Type 1} {𝓤 : Ura M} (𝓛 : Logic 𝓤) where
   parts⊢ : (Ts : List RattleType) (a : Denots Ts) (vss : Valss Ts) → ent 𝓤 (⋆ 𝓛 (parts Ts a vss)) (sem 𝓛 (owns Ts a vss))
   parts⊢ [] a vss = id⊢ 𝓤 (emp 𝓤)
   parts⊢ (T ∷ Ts) a vss =
-      via 𝓤 _ (pop 𝓛 (‵ (T.own a.0 vss.0)) (parts Ts a.1 vss.1)) (mono_r 𝓤 (sem 𝓛 (T.own a.0 vss.0)) (parts⊢ Ts a.1 vss.1))
+      via 𝓤 _ (pop 𝓛 (‵ (T.own_val a.0 vss.0)) (parts Ts a.1 vss.1)) (mono_r 𝓤 (sem 𝓛 (T.own_val a.0 vss.0)) (parts⊢ Ts a.1 vss.1))
 
   pub ⊢parts : (Ts : List RattleType) (a : Denots Ts) (vss : Valss Ts) → ent 𝓤 (sem 𝓛 (owns Ts a vss)) (⋆ 𝓛 (parts Ts a vss))
   ⊢parts [] a vss = id⊢ 𝓤 (emp 𝓤)
   ⊢parts (T ∷ Ts) a vss =
-      via 𝓤 _ (mono_r 𝓤 (sem 𝓛 (T.own a.0 vss.0)) (⊢parts Ts a.1 vss.1)) (push 𝓛 (‵ (T.own a.0 vss.0)) (parts Ts a.1 vss.1))
+      via 𝓤 _ (mono_r 𝓤 (sem 𝓛 (T.own_val a.0 vss.0)) (⊢parts Ts a.1 vss.1)) (push 𝓛 (‵ (T.own_val a.0 vss.0)) (parts Ts a.1 vss.1))
 
   ⊢end : {X : Type 0} (e : Exit X) (x : X) (w : Last e x) (Δ : List (Item 𝓤)) → ent 𝓤 (sep 𝓤 (sem 𝓛 (left e x w)) (⋆ 𝓛 Δ)) (⋆ 𝓛 (end e x w Δ))
   ⊢end unchanged x w Δ = snd∗ 𝓤 (emp 𝓤) (⋆ 𝓛 Δ)
-  ⊢end (leaves L l S s) x w Δ = push 𝓛 (‵ (l x w)) Δ
+  ⊢end (leaves L l S s r₀) x w Δ = push 𝓛 (‵ (l x w)) Δ
 
   ⊢ends : {n : ℕ} (κs : Lfts n) (ss : List (Slot n)) (ks : Kepts ss) (a : Denots (types_at ss κs)) (ws : Fins κs ss ks a)
       → ent 𝓤 (sem 𝓛 (lasts_of κs ss ks a ws)) (⋆ 𝓛 (ends κs ss ks a ws))
@@ -115,7 +115,7 @@ module _ {M : Type 1} {𝓤 : Ura M} {K : Type 0} (𝓛 : Logic 𝓤) {Γ : List
   -- φ is what the callee says of its result and of the last values
   open 𝓛 use {H}
 
-  pub calls-told : {E : Env 𝓤 H} {C : Calls 𝓤 H} {Λ : Loops 𝓤 H} {Q : Post 𝓤 H} {f : Name} {xs : List Operand} {d : Place} {rest : Body}
+  pub calls-told : {E : Env 𝓤 H} {C : Calls 𝓤 H} {Λ : Loops 𝓤 H} {Q : Post 𝓤 H} {f : Callee} {xs : List Operand} {d : Place} {rest : Body}
       → FmC 𝓤 H 𝓛.laws C → (T : Ended) (c : Clauses 𝓤 T) → Triple 𝓤 (C f) (Told 𝓛 T c)
       → (κs : Lfts T.signature.lifetimes) (qs : Shares T.signature.lifetimes)
       (bounds : AllOutlive T.signature.lifetimes T.signature.outlives κs)
@@ -131,7 +131,7 @@ module _ {M : Type 1} {𝓤 : Ura M} {K : Type 0} (𝓛 : Logic 𝓤) {Γ : List
       let live : SProp 𝓤 = alive 𝓛 T.signature κs qs in
       cut (before T κs qs a vss) (raw ((Told 𝓛 T c).pre ((κs, qs, bounds, a, vss), g)) ∷ []) Γ (into 𝓛 T κs qs a vss ((c κs a).requires g) asked) $
       calls_at t fm (Told 𝓛 T c) known ((κs, qs, bounds, a, vss), g) os (λ w.
-      use1 𝓛 (later (some (λ (r : Res T.signature κs). (raw live ⊛ ‵ (R.own r (w ∷ []))) ⊛ raw (ensured 𝓛 T c κs a g r)))) (id⊢ 𝓤 _) $ await t tt $
+      use1 𝓛 (later (some (λ (r : Res T.signature κs). (raw live ⊛ ‵ (R.own_val r (w ∷ []))) ⊛ raw (ensured 𝓛 T c κs a g r)))) (id⊢ 𝓤 _) $ await t tt $
       pick t (λ r. split t $ move t (1 ∷ []) $
       use1 𝓛 (some (λ (ws : Lasts T κs a). ‵ (lasts T κs a ws) ⊛ raw ((c κs a).ensures g r (at_exit T κs a ws)))) (id⊢ 𝓤 _) $
       pick t (λ ws. split t $ move t (1 ∷ []) $
