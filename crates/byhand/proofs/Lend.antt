@@ -9,6 +9,7 @@
 --     held x l         what a walk has of a `&mut`: the slice at the list l, and the token
 --     gave x l         what a walk has of one that it has given up for good: what the call left of it, at its last list, and the token
 --     lends, back      a lifetime ν is made, and x is lent for it under the name δ; ν is ended, and x is back at the list that the call left
+--     back_left        the same from all that the call left
 --     lends_shr, back_shr      the same as a `&`. The elements are shared out with half of x's token beside ν's, so at x's own lifetime
 -- Assumes `Logic`. `lends_shr` takes the laws of the element's type: its `RowLaws`, and that it is shared out at x's lifetime (`Denote/Shares.antt`).
 use mathlib.Core.Path.{◌≡◌, refl, sym, ◌∙◌, ap, subst}
@@ -114,15 +115,17 @@ module _ {M : Type 1} {𝓤 : Ura M} {𝓛 : Logic 𝓤} {K : Type 0} {Γ : List
       move t (1 ∷ []) $ pure_i t (known x l) (tt, (tt, tt)) (e, g) $ fjoin t $ move t (2 ∷ 1 ∷ []) $ k ν δ)))
 
   pub back : K → Soaks G → {R : RattleType} (x : Passed R) (l l' : List R.Denot) {ν : ℕ} {δ : GName} → length l' ≡ length l
-      → Step K 𝓛 (held x l' ∷ Γ) G (‵ (flft (ν ∷ []) full_share) ∷ ‵ (fsep (known x l) (kept x l ν δ)) ∷ ‵ (left_at x (ν ∷ []) δ l') ∷ Γ) G
-  back t z {R} x l l' {ν} {δ} e = step (λ s. move t (2 ∷ []) $ fsplit t $ move t (1 ∷ []) $ drop t $ move t (1 ∷ []) $
-      -- [ν's token; what says the last list; what is kept]
-      lft_end t z $ move t (2 ∷ []) $ fsplit t $ pure_l t (known x l) (λ p. move t (1 ∷ 0 ∷ []) $
+      → Step K 𝓛 (held x l' ∷ Γ) G (‵ (flft (ν ∷ []) full_share) ∷ ‵ (fsep (known x l) (kept x l ν δ)) ∷ ‵ (finally R δ l') ∷ Γ) G
+  back t z {R} x l l' {ν} {δ} e = step (λ s. lft_end t z $ move t (1 ∷ []) $ fsplit t $ pure_l t (known x l) (λ p. move t (1 ∷ 0 ∷ []) $
       use3 𝓛 (later (‵ (Own x l' (counted x l)) ⊛ ‵ (flft x.lft x.share)))
       (comes_back R x.lft (ν ∷ []) x.share x.ref.ghost_name x.ref.ref_ptr.0 x.ref.ref_ptr.1 𝓛 erased erased l δ l' p.1 e) $ await t z $
       split t $ fsplit t $ drop t $
       pure_i t (known x l') (tt, (tt, tt)) (p.0 ∙ ap (λ (m : ℕ). slice_val x.ref.ref_ptr m ∷ []) (sym e), subst (Room R) (sym e) p.1) $
       fjoin t $ join t $ s))
+
+  pub back_left : K → Soaks G → {R : RattleType} (x : Passed R) (l l' : List R.Denot) {ν : ℕ} {δ : GName} → length l' ≡ length l
+      → Step K 𝓛 (held x l' ∷ Γ) G (‵ (flft (ν ∷ []) full_share) ∷ ‵ (fsep (known x l) (kept x l ν δ)) ∷ ‵ (left_at x (ν ∷ []) δ l') ∷ Γ) G
+  back_left t z x l l' e = step (λ s. move t (2 ∷ []) $ fsplit t $ move t (1 ∷ []) $ drop t $ move t (1 ∷ 2 ∷ 0 ∷ []) $ back t z x l l' e $ s)
 
   pub lends_shr : K → Soaks G → {R : RattleType} (x : Passed R) (l : List R.Denot) → RowLaws R → Shares 𝓛 R x.lft
       → ((ν : ℕ)

@@ -2,11 +2,12 @@
 use mathlib.Core.Path.{◌≡◌, refl}
 use mathlib.Core.List.{List, [], ◌∷◌, ◌++◌}
 use Prim.Native.Nat.{ℕ}
+use lib.ListN.{length}
 use seplogic.Ra.Ura.{Ura}
 use mir.Syntax.{Fn, w64}
 use mir.Val.{Val}
 use base.Logic.{ent, sep, emp, id⊢, via, comm∗, mono∗, mono_r}
-use base.Fml.{ftrue}
+use base.Fml.{fsep, ftrue, fbor}
 use prog.Model.{Model}
 use prog.Routine.{Callee, Env}
 use prog.Wp.{WpFn, Closed}
@@ -15,13 +16,14 @@ use sound.WpLaws.{WpFn-mono}
 use contract.Lifetimes.{Lfts, Shares, AllOutlive, Within}
 use contract.Monad.{Fun}
 use contract.Running.{Running, tables, tables_of}
-use types.Kit.{Item, ‵, raw, ⋆, push, pop, ++⊢, ⊢++, prop, Seq, Sq, ◌$◌, ◌∵◌, !, qed, by, move, group, use0, suffices, done}
+use types.Kit.{Item, ‵, raw, ⋆, push, pop, ++⊢, ⊢++, prop, Seq, Sq, ◌$◌, ◌∵◌, !, qed, by, move, group, rewrite, use0, suffices, done}
 use denote.RattleType.{RattleType, Denots, Valss}
 use denote.Laws.{Is, Ises, Are, Tells, Tellss, Spells, valss}
 use denote.Plain.{uint_vals, uint_Tells}
 use denote.Builtin.{usize}
-use denote.Slice.{shr_slice_vals, mut_slice_vals}
-use denote.Signature.{Slot, Signature, plain, mut_slice, shr_slice, type_at, types_at}
+use denote.Slice.{finally, shr_slice_vals, mut_slice_vals}
+use denote.Lend.{Held}
+use denote.Signature.{Slot, Signature, meet_at, plain, mut_slice, shr_slice, type_at, types_at}
 use denote.Exit.{Kept, yes, Last, left}
 use denote.Triple.End.{Kepts, Fins}
 use denote.Triple.Bound.{Bound}
@@ -29,7 +31,7 @@ use denote.Triple.Entry.{Args, Res, alive, on_entry}
 use denote.Triple.Statement.{Contract, Triple}
 use denote.Triple.Table.{entered}
 use denote.Triple.Clauses.{Ended, Clauses, Lasts, at_exit}
-use denote.Triple.Walked.{Stay, Stays, stay_slice, stay_dropped, gave_slice, has_of, Fit, walk_of, Goes, AllGo, Goes-slice, Goes-dropped, Goes-gave_slice}
+use denote.Triple.Walked.{Stay, Stays, stay_slice, stay_dropped, has_of, Fit, walk_of, Goes, AllGo, Goes-slice, Goes-dropped, Goes-gave_slice}
 use denote.Triple.Walked.{ends_at, walked, walk_Meets}
 use Rattle.byhand.proofs.Told.{Told, tokens, parts, tokens⊢, ⊢tokens, ⊢parts}
 
@@ -40,9 +42,26 @@ pub record Param (n : ℕ) (s : Slot n) (k : Kept) : Type 2 where
   pub vals : (κs : Lfts n) → (s.row κs).Denot → List Val
   pub tells : (κs : Lfts n) → Tells (s.row κs) (Is (s.row κs)) (vals κs)
 
+-- Of a slice that is given up for good, what says its last list is had, and the borrow, closed, of as many elements.
+module _ (n j : ℕ) (ok : Within n j) (R : RattleType) where
+  abbrev pub given_slice : Stay {n = n} (mut_slice j ok (λ _. R)) yes
+  given_slice = record {
+    fit = λ κs x ws. length ws ≡ length x.now;
+    has = λ κs x ws vs.
+        fsep (finally R x.ghost_name ws) (fbor (meet_at n (j ∷ []) ok κs) (Held R (length ws) x.ref_ptr.0 x.ref_ptr.1 x.ghost_name));
+  }
+
+  pub gives_slice : {M : Type 1} {𝓤 : Ura M} (𝓛 : Logic 𝓤) → Goes 𝓛 n (mut_slice j ok (λ _. R)) yes given_slice
+  gives_slice 𝓛 κs x ws vs fits =
+      let κ = meet_at n (j ∷ []) ok κs in
+      let last = finally R x.ghost_name ws in
+      let borrow = λ (m : ℕ). fbor κ (Held R m x.ref_ptr.0 x.ref_ptr.1 x.ghost_name) in
+      qed 𝓛 (‵ (fsep last (borrow (length ws))) ∷ []) ∵ rewrite ! 0 (λ (m : ℕ). ‵ (fsep last (borrow m))) fits refl $
+      by ! (Goes-gave_slice 𝓛 n j ok (plain (λ _. R)) κs x ws vs fits)
+
 module _ {n : ℕ} where
   -- A parameter of which nothing is had at exit, and of which a contract says nothing then: so are a number and a shared slice. A slice that is lent is
-  -- had at its last list. Of one that is given up for good, only what says its last list is had.
+  -- had at its last list. Of one that is given up for good, what `given_slice` says is had.
   abbrev pub dropped_param : (s : Slot n) → ((κs : Lfts n) (x : (s.row κs).Denot) (f : Last ((s.row κs).exit yes) x) → left ((s.row κs).exit yes) x f ≡ ftrue) →
       (vals : (κs : Lfts n) → (s.row κs).Denot → List Val) → ((κs : Lfts n) → Tells (s.row κs) (Is (s.row κs)) (vals κs)) → Param n s yes
   dropped_param s silent vals tells = record {
@@ -69,8 +88,8 @@ module _ {n : ℕ} where
 
     abbrev pub given_param : Param n (mut_slice j ok (λ _. R)) yes
     given_param = record {
-      stay = gave_slice (j ∷ []) ok (plain (λ _. R));
-      goes = λ 𝓛. Goes-gave_slice 𝓛 n j ok (plain (λ _. R));
+      stay = given_slice n j ok R;
+      goes = λ 𝓛. gives_slice n j ok R 𝓛;
       vals = λ κs. mut_slice_vals;
       tells = λ κs x vs p. p.0.0;
     }

@@ -2,7 +2,7 @@
 -- `lends_shared` makes the `&` that is handed on, and `LentShared` is what the lender keeps meanwhile. Once κ' has ended, `comes_back-shared`
 -- gives the lender its own borrow again, and the token with it.
 -- A `&` is made with tokens ts, which come back at once: their lifetimes end no later than κ', nor than l, at which the elements are shared out.
--- A type that can be copied is shared out at any l.
+-- A type that can be copied is shared out with no token, `lends_copied`.
 use mathlib.Core.Path.{refl}
 use Prim.Native.Nat.{ℕ}
 use mathlib.Core.List.{List, [], ◌∷◌}
@@ -10,18 +10,22 @@ use lib.ListN.{length}
 use seplogic.Ra.Ura.{Ura}
 use mir.Syntax.{Lifetime, erased}
 use mir.Val.{Val}
-use base.Logic.{ent, sep}
+use base.Logic.{ent, sep, emp, id⊢}
 use base.Fml.{Lft, GName, Share, Fml, Incl, flft, fdead}
 use ghost.Rules.{Toks, span}
 use types.Logic.{Logic, sem, lfts}
-use types.Kit.{Item, mean, ‵, raw, ◌⊛◌, later, ◌$◌, ◌∵◌, !, qed, use2, use3, drop, move, split, join}
+use types.Kit.{Item, mean, ‵, raw, ◌⊛◌, later, ◌$◌, ◌∵◌, !, qed, use0, use2, use3, drop, move, split}
 use types.Kit.{fsplit, fjoin, await, updating, now as at_once, done}
 use denote.RattleType.{RattleType, RowLaws}
 use denote.Shadow.{pure_l, pure_i}
 use denote.Shares.{Shares}
-use denote.Ref.{Bor, MutBor, as_bor}
+use denote.Ref.{MutBor, as_bor}
 use denote.Slice.{slice_val, MutSlice, ShrSlice, shr_slice_at, mut_slice_at, room}
 use borrow.Table.Owned as O
+use borrow.Table.Row.{Rho}
+use borrow.Table.Own.{own_s}
+use borrow.Table.Copies.{Cp}
+use borrow.Rule.SharedLend.{each_copy}
 use borrow.Rule.Array.Share.{share_cells}
 use borrow.Rule.Slice.Reshare.{kept_s, sl_reshare_as, sl_reshare_back}
 
@@ -61,6 +65,20 @@ module _ (R : RattleType) (κ κ' : Lft) (q : Share) (γ : GName) (b o : ℕ) wh
         -- [what the `&` owns apart from its machine value; what is kept and the tokens]
         fsplit ! $ drop ! $ pure_i ! (shr_slice_at R shared vals) (tt, (tt, tt)) p $ fjoin ! $ move ! (1 ∷ []) $ split ! $
         move ! (2 ∷ 0 ∷ 1 ∷ []) $ at_once ! $ done !)
+
+    pub lends_copied : RowLaws R → Cp R → ent 𝓤 (sep 𝓤 (sem 𝓛 Own) (A.lft κ q)) (H.⇛ (sep 𝓤 (sem 𝓛 Own') (mean 𝓛 (LentShared 𝓛 ys))))
+    unfolding own_s
+    lends_copied laws copied =
+        let shared = as_bor (at-list ys) in
+        let ρ : Rho = (0, κ' ∷ []) in
+        qed 𝓛 (‵ Own ∷ ‵ (flft κ q) ∷ []) ∵ updating ! $
+        fsplit ! $ pure_l ! (mut_slice_at R (at-list ys) vals) (λ p. pure_i ! (room R (length ys)) (tt, tt) p.1 $ fjoin ! $
+        use0 𝓛 (raw (own_s 𝓛 ρ [])) (id⊢ 𝓤 (emp 𝓤)) $ move ! (1 ∷ 2 ∷ 0 ∷ []) $
+        use3 𝓛 (later (‵ ((O.ShrSlice erased κ' R).own_val shared) ⊛ (LentShared 𝓛 ys ⊛ raw (own_s 𝓛 ρ []))))
+        (sl_reshare_as 𝓛 R κ q κ' b o γ (own_s 𝓛 ρ []) (λ zs has. each_copy 𝓛 (λ _. Unit {0}) [] R laws 0 copied ρ tt zs b o has) ys) $
+        await ! tt $ split ! $
+        fsplit ! $ drop ! $ pure_i ! (shr_slice_at R shared vals) (tt, (tt, tt)) p $ fjoin ! $ move ! (1 ∷ []) $ split ! $ move ! (1 ∷ []) $ drop ! $
+        move ! (1 ∷ 0 ∷ []) $ at_once ! $ done !)
 
     pub comes_back-shared : ent 𝓤 (sep 𝓤 (A.dead κ') (mean 𝓛 (LentShared 𝓛 ys))) (H.⇛ (sep 𝓤 (sem 𝓛 Own) (A.lft κ q)))
     comes_back-shared =

@@ -2,26 +2,28 @@
 --     tokens, parts, ends  the tokens that a callee is lent; what its parameters own; what its contract says of those that it may change
 --     Told T c         the callee's contract, at its clauses c
 --     calls-told       the `requires` is shown, and the `ensures` learned. What the result owns is let go, and its relation learned
---     last-list        what a contract says of a `&mut [T]` at exit: its last list, which is as long as it was
+--     last-list        what a contract says of a `&mut [T]` at exit: its last list, which is as long as it was, so that the borrow, which it
+--                      leaves closed, is of as many elements
 -- Assumes `Logic`, and `FmC` of the table of calls.
-use mathlib.Core.Path.{◌≡◌}
+use mathlib.Core.Path.{◌≡◌, refl, sym}
 use Prim.Native.Nat.{ℕ, suc, zero}
 use mathlib.Core.List.{List, [], ◌∷◌, ◌++◌}
 use seplogic.Ra.Ura.{Ura}
 use mir.Syntax.{Callee, Place, Opd as Operand, seq, call, Body}
 use mir.Val.{Val}
 use base.Logic.{SProp, ent, sep, emp, id⊢, via, comm∗, mono∗, mono_l, mono_r, emp∗, snd∗}
-use base.Fml.{Fml, fsep, feq, flft}
+use base.Fml.{Lft, GName, Fml, fsep, feq, flft, fbor}
 use prog.Wp.{Env, Calls, Loops}
 use types.Logic.{Logic, sem}
 use sound.WpLaws.{FmC}
 use types.Kit.{Item, Goal, Post, Seq, ‵, raw, ◌⊛◌, some, later, ⋆, push, pop, ++⊢, ⊢++, runs, lands}
-use types.Kit.{cut, ◌$◌, move, use1, split, pick, fsplit, feq_l, await}
+use types.Kit.{cut, ◌$◌, move, use1, split, pick, rewrite, fsplit, fjoin, feq_l, await}
 use types.Run.{Opds}
 use contract.Monad.{fact}
 use contract.Lifetimes.{Lfts, Shares, AllOutlive, toks}
 use denote.RattleType.{RattleType, Denots, Valss, flat, owns}
 use denote.Laws.{Is, shows}
+use denote.Lend.{Held}
 use denote.Exit.{Exit, unchanged, leaves, Last, left}
 use denote.Signature.{Slot, type_at, types_at}
 use denote.Steps.{facts, heard}
@@ -141,5 +143,9 @@ module _ {M : Type 1} {𝓤 : Ura M} {K : Type 0} (𝓛 : Logic 𝓤) {Γ : List
       cut (raw live ∷ ‵ (lasts T κs a ws) ∷ []) (after T κs qs a ws) Γ (out_of 𝓛 T κs qs a ws) $ k w r ws e is)))))
 
 module _ {M : Type 1} {𝓤 : Ura M} {𝓛 : Logic 𝓤} {K : Type 0} {Γ : List (Item 𝓤)} {G : Goal 𝓤 𝓛.H} where
-  pub last-list : K → {P : Fml} {m n : ℕ} → (m ≡ n → Seq K 𝓛 (‵ P ∷ Γ) G) → Seq K 𝓛 (‵ (fsep P (feq ℕ m n)) ∷ Γ) G
-  last-list t k = fsplit t $ move t (1 ∷ []) $ feq_l t k
+  pub last-list : K → (R : RattleType) {P : Fml} {κ : Lft} {γ : GName} {m n b o : ℕ}
+      → (m ≡ n → Seq K 𝓛 (‵ (fsep P (fbor κ (Held R m b o γ))) ∷ Γ) G)
+      → Seq K 𝓛 (‵ (fsep (fsep P (feq ℕ m n)) (fbor κ (Held R n b o γ))) ∷ Γ) G
+  last-list t R {κ = κ} {γ = γ} {b = b} {o = o} k =
+      fsplit t $ fsplit t $ move t (1 ∷ []) $ feq_l t (λ e.
+      rewrite t 1 (λ (l : ℕ). ‵ (fbor κ (Held R l b o γ))) (sym e) refl $ fjoin t $ k e)

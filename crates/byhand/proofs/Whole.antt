@@ -4,6 +4,7 @@
 --     LentWhole        what is kept of the array meanwhile: the lender's part
 --     lends-whole      ν is made, and the array is lent for it
 --     whole_back       ν is ended, and the array is back, at the list that the call left. What it owns is let go, and its relation learned
+--     whole_back_left  the same from all that the call left, as `Lend.antt`'s `gave` has it
 --     big-lit          an operand that is a large literal, as the slice's count is
 -- Assumes `Logic`, and that T has one MIR type.
 use mathlib.Core.Path.{refl, sym, subst}
@@ -15,10 +16,10 @@ use base.Fraction.{full_share}
 use mir.Syntax.{Width, erased, int_big, ty_array}
 use mir.Val.{Val, vint, Fits}
 use base.Logic.{via, guard_i}
-use base.Fml.{GName, Fml, fsep, fat, flft, flent}
+use base.Fml.{GName, Fml, fsep, fat, flft, flent, fbor}
 use prog.Wp.{Env}
 use types.Logic.{Logic}
-use types.Kit.{Item, Goal, Soaks, Seq, ‵, ◌⊛◌, some, later, ◌$◌, move, use1, use3, split, join, rewrite, pick, fsplit, fjoin, fpick, fpack, feq_l, await}
+use types.Kit.{Item, Goal, Soaks, Seq, ‵, ◌⊛◌, some, later, ◌$◌, move, use1, use3, drop, split, join, rewrite, pick, fsplit, fjoin, fpick, fpack, feq_l, await}
 use types.Run.{Opd}
 use types.Tokens.{lft_new, lft_end}
 use types.SemTy.{Arr}
@@ -80,3 +81,10 @@ module _ {M : Type 1} {𝓤 : Ura M} {𝓛 : Logic 𝓤} {K : Type 0} {Γ : List
         rewrite t 0 (λ (us : List Val). ‵ (cell_at full_share (Array R n).mir us b 0)) is.1.0.0 refl $
         use1 𝓛 (‵ (cell R n b (array_val is.0))) (𝓛.laws.raw_at full_share (ty_array (lone R.mir) n) b 0 (array_val is.0)) $
         k (array_val is.0) (subst (Is (Array R n) ys) is.1.0.0 is)))
+
+    pub whole_back_left : K → Soaks G → (R : RattleType) (n b : ℕ) (ys : List R.Denot) {ν : ℕ} {δ : GName}
+        → ((v : Val) → Is (Array R n) ys (v ∷ []) → Seq K 𝓛 (‵ (cell R n b v) ∷ Γ) G)
+        → Seq K 𝓛
+        ((‵ (fsep (finally R δ ys) (fbor (ν ∷ []) (Held R (length ys) b 0 δ))) ⊛ ‵ (flft (ν ∷ []) full_share)) ∷ ‵ (LentWhole R n b ν δ) ∷ Γ) G
+    whole_back_left t z R n b ys k =
+        split t $ fsplit t $ move t (1 ∷ []) $ drop t $ join t $ whole_back t z R n b ys k
