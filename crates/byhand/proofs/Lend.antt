@@ -1,8 +1,9 @@
 -- The slices that a walked function was passed, in steps of its walk: each `&mut` is lent to a call for a lifetime of the call's own, as a
 -- `&mut` (`Again.antt`) or as a `&` (`Shared.antt`), and is back after it.
---     Passed R         a slice of R that a function was passed: its lifetime, the share of the token, the reference, and that the count is a usize
+--     Passed R         a `&mut` slice of R that a function was passed: its lifetime, the share of the token, the reference, and that the count is a usize
 --     entry, value     the list that it was passed with, and its machine value, which stays as the list changes
 --     well_typed       that the machine value is of the slice's type, as the entry of the function asks
+--     PassedShr R      the same of a `&` slice, whose reference has no ghost name.        entry_shr, value_shr, well_typed_shr      likewise
 --     named x δ l      the slice under another ghost name, at the list l
 --     shown x l        the slice as a `&`, which has no ghost name, at the list l
 --     left_at x κ δ l  what a call leaves of the slice that was lent to it at κ under the name δ: what says its last list, l, and the borrow, closed
@@ -42,6 +43,22 @@ pub record Passed (R : RattleType) : Type 0 where
   pub share : Share
   pub ref : MutBor (List R.Denot)
   pub fits : length ref.now < 2 ^ 64
+
+pub record PassedShr (R : RattleType) : Type 0 where
+  pub lft : Lft
+  pub share : Share
+  pub ref : Bor (List R.Denot)
+  pub fits : length ref.now < 2 ^ 64
+
+module _ {R : RattleType} (x : PassedShr R) where
+  abbrev pub entry_shr : List R.Denot
+  entry_shr = x.ref.now
+
+  abbrev pub value_shr : Val
+  value_shr = slice_val x.ref.ref_ptr (length entry_shr)
+
+  pub well_typed_shr : Unit {0} × WT value_shr
+  well_typed_shr = (tt, (tt, (record { fits = x.fits }, tt)))
 
 module _ {R : RattleType} (x : Passed R) where
   abbrev pub entry : List R.Denot
