@@ -80,6 +80,9 @@ module _ (text : Bytes) (i : ℕ) {begun : ℕ} {lengths : Bytes} (c : CountedTo
     last : opened text i - 1 < 256
     last = omega (arith, c.begun_is, c.few)
 
+    pub last-within : begun - 1 < length lengths
+    last-within = omega (arith, c.few, counted-length)
+
     pub held-is : get_or lengths (begun - 1) 0 ≡ held text i
     held-is = rw (c.lengths_are, c.begun_is) (lengths-at text i (opened text i - 1) last)
 
