@@ -1,5 +1,5 @@
 -- `fasta::make_job` meets its contract: each of its three ends leaves what Left.antt says.
-use mathlib.Core.Path.{◌≡◌, sym, ◌∙◌}
+use mathlib.Core.Path.{sym, ◌∙◌}
 use native.Mathlib.Omega.{arith}
 use Rattle.fasta.proofs.Left.{sized, short-left, refusal-left, job-left}
 use Rattle.fasta.proofs.make_job.Goals as goal

@@ -1,5 +1,5 @@
 -- `fasta::put_state` meets its contract: a state is stored, and any other byte is not.
-use mathlib.Core.Path.{◌≡◌, sym, ◌∙◌}
+use mathlib.Core.Path.{sym, ◌∙◌}
 use native.Mathlib.Omega.{arith}
 use Rattle.memory.proofs.Follows.{follows-none, follows-stored}
 use Rattle.fasta.proofs.put_state.Goals as goal

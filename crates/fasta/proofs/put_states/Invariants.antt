@@ -1,13 +1,10 @@
 -- `fasta::put_states` meets its contract: at byte i the states before it stand there.
-use mathlib.Core.Path.{◌≡◌, refl, ◌∙◌}
+use mathlib.Core.Path.{◌≡◌}
 use Prim.Native.Nat.{◌-◌, ◌≤◌}
-use native.Mathlib.Omega.{arith}
 use lib.ListN.{length}
 use Rattle.graph.specs.Below.{gather}
 use Rattle.fasta.specs.Lines.{line_start}
-use Rattle.fasta.specs.Sequences.{states}
 use Rattle.memory.specs.Placed.{Follows}
-use Rattle.memory.proofs.Follows.{follows-none, follows-more, follows-room}
 use Rattle.fasta.proofs.Written.{state_at}
 use Rattle.fasta.proofs.put_states.Given as goal
 

@@ -1,5 +1,5 @@
 -- `fasta::put_weights` meets its contract: after c columns the weights of the first c stand there.
-use mathlib.Core.Path.{◌≡◌, refl}
+use mathlib.Core.Path.{refl}
 use native.Mathlib.Omega.{arith}
 use Rattle.fasta.proofs.Written.{weights-none, weights-more}
 use Rattle.fasta.proofs.put_weights.Goals as goal

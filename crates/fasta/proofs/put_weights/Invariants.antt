@@ -1,11 +1,9 @@
 -- `fasta::put_weights` meets its contract: after c columns the weights of the first c stand there.
-use mathlib.Core.Path.{◌≡◌, refl, ◌∙◌}
+use mathlib.Core.Path.{◌≡◌}
 use Prim.Native.Nat.{◌-◌, ◌≤◌}
-use native.Mathlib.Omega.{arith}
 use lib.ListN.{length}
 use Rattle.memory.specs.Placed.{placed}
 use Rattle.fasta.specs.Block.{weights_of}
-use Rattle.fasta.proofs.Written.{weights-none, weights-more}
 use Rattle.fasta.proofs.put_weights.Given as goal
 
 abbrev pub invariant-loop-c : goal.invariant-loop-c

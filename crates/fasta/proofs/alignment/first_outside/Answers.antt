@@ -1,5 +1,5 @@
 -- `alignment::first_outside` meets its contract: no length before the place is outside its bounds.
-use mathlib.Core.Path.{◌≡◌, sym, ◌∙◌}
+use mathlib.Core.Path.{sym, ◌∙◌}
 use native.Mathlib.Omega.{arith}
 use Rattle.graph.proofs.Below.{first-is}
 use Rattle.fasta.proofs.alignment.first_outside.Goals as goal

@@ -1,13 +1,8 @@
 -- `alignment::first_outside` meets its contract: no length before the place is outside its bounds.
-use mathlib.Core.Path.{◌≡◌, sym, ◌∙◌}
+use mathlib.Core.Path.{◌≡◌}
 use mathlib.Core.Bool.{false}
 use Prim.Native.Nat.{ℕ, ◌-◌, ◌≤◌, ◌<◌}
-use native.Mathlib.Omega.{arith}
 use lib.ListN.{get_or}
-use mir.Facts.{Fits-8_64}
-use borrow.Author.Count.{below_none, below_more}
-use borrow.Author.Rules.{rules}
-use Rattle.graph.proofs.Below.{first-is}
 use Rattle.rules.specs.Job.{outside}
 use Rattle.fasta.proofs.alignment.first_outside.Given as goal
 

@@ -1,5 +1,5 @@
 -- `alignment::size_of_job` meets its contract: the lengths that were counted tell what else is refused.
-use mathlib.Core.Path.{◌≡◌, refl}
+use mathlib.Core.Path.{refl}
 use native.Mathlib.Omega.{arith}
 use Rattle.fasta.proofs.conversion.Answers.{refuses-told, passes-told}
 use Rattle.fasta.proofs.alignment.Sizes.{fault-measured, rows_are, rows-within, length_at, passes_on, none-measured, empty-measured, uneven_measured, even-measured, refused_as, sized_as}

@@ -1,5 +1,5 @@
 -- `alignment::take_byte` meets its contract: a state goes its own way, and an opener may be one too many.
-use mathlib.Core.Path.{◌≡◌, sym, ◌∙◌}
+use mathlib.Core.Path.{sym, ◌∙◌}
 use native.Mathlib.Omega.{arith}
 use Rattle.fasta.proofs.alignment.Faults.{skipped-passes, opener-passes}
 use Rattle.fasta.proofs.alignment.Counted.{lengths-same, taken-passed}

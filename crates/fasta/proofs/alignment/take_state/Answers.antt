@@ -1,5 +1,5 @@
 -- `alignment::take_state` meets its contract: the faults in their order, and else one state more.
-use mathlib.Core.Path.{◌≡◌, refl, sym, ◌∙◌}
+use mathlib.Core.Path.{refl, sym, ◌∙◌}
 use Prim.Native.Nat.{◌≤◌, ◌<◌}
 use native.Mathlib.Omega.{arith}
 use Rattle.fasta.specs.Refusals.{held}

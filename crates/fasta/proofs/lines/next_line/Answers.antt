@@ -1,7 +1,6 @@
 -- `lines::next_line` meets its contract.
 use native.Mathlib.Numerals.{add-one}
 use borrow.Author.Tests.{eq-eqb, ne_eqb}
-use borrow.Author.Rules.{rules}
 use Rattle.fasta.specs.Lines.{line_start}
 use Rattle.fasta.proofs.lines.next_line.Goals as goal
 
