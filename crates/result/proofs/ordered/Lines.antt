@@ -25,6 +25,7 @@ module _ {A : Type 0} (f : ℕ → List A) where
   -- List i stands behind the lists before it.
   split : (n i : ℕ) → i < n → (rest : List A) × (gather n f ≡ gather i f ++ (f i ++ rest))
   unfolding gather
+  split zero i h = elim h [ ]
   split (suc n) i h =
       last_or (λ m. (rest : List A) × (gather (suc n) f ≡ gather m f ++ (f m ++ rest))) n i h ([], rw append-nil)
       (λ l. let (rest, e) = split n i l in (rest ++ f n, rw (e, append_assoc, append_assoc)))

@@ -1,0 +1,17 @@
+-- `ordered::count_line` meets its contract: before type j it counted the links of the pairs before j.
+use mathlib.Core.Path.{◌≡◌, sym, ◌∙◌}
+use mathlib.Core.Logic.{⊎_elim}
+use mathlib.Core.Bool.{true, false}
+use Prim.Native.Nat.{◌-◌, ◌≤◌, ◌<◌}
+use native.Mathlib.Omega.{arith}
+use lib.ListN.{length}
+use Rattle.graph.specs.Below.{gather}
+use Rattle.result.specs.Lines.{pair_of, line_of}
+use Rattle.result.proofs.ordered.Lines.{higher, lower, pair-more}
+use Rattle.result.proofs.ordered.count_line.Given as goal
+
+abbrev pub invariant-loop-j : goal.invariant-loop-j
+invariant-loop-j l = (l.i < l.j) × (l.j ≤ l.t) × (l.n ≤ l.j) × (l.n ≡ length (gather l.j (pair_of l.area l.i)))
+
+abbrev pub decreases-loop-j : goal.decreases-loop-j
+decreases-loop-j l = l.t - l.j

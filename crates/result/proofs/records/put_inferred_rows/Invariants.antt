@@ -1,0 +1,15 @@
+-- `records::put_inferred_rows` meets its contract: at type k the rows of the types from s to k stand there.
+use mathlib.Core.Path.{◌≡◌, refl, ◌∙◌}
+use Prim.Native.Nat.{◌-◌, ◌≤◌}
+use native.Mathlib.Omega.{arith}
+use lib.ListN.{length, length-take}
+use Rattle.memory.specs.Placed.{placed}
+use Rattle.result.specs.Records.{inferred_rows}
+use Rattle.result.proofs.records.RecordBytes.{row_room, rows_none, rows_more}
+use Rattle.result.proofs.records.put_inferred_rows.Given as goal
+
+abbrev pub invariant-loop-k : goal.invariant-loop-k
+invariant-loop-k l = (l.s ≤ l.k) × (l.k ≤ l.t) × (length l.out ≡ length l.initial.out) × (l.out ≡ placed l.initial.out l.at (inferred_rows l.m l.states l.s (l.k - l.s)))
+
+abbrev pub decreases-loop-k : goal.decreases-loop-k
+decreases-loop-k l = l.t - l.k
