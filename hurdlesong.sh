@@ -1,7 +1,7 @@
 #!/usr/bin/env bash
 # hurdlesong.sh FILE [EPSILON]: the network of the FASTA text in FILE, or its refusal. A FILE that ends in .job is a job block instead, which
 # has its own epsilon. The program is proved and built first where that is not done yet; this needs the Rattle toolchain's `rt` on the path
-# and takes some minutes the first time. The exit status is 0 where there is an answer, a network or a refusal, and not where there is none.
+# and takes long the first time. The exit status is 0 where there is an answer, a network or a refusal, and not where there is none.
 set -eu
 if [ $# -lt 1 ] || [ $# -gt 2 ]; then
     echo "usage: $0 FILE [EPSILON]" >&2
@@ -24,23 +24,14 @@ case $file in
 *) program=hurdlesong_fasta ;;
 esac
 cd "$(dirname "$(realpath "$0")")"
-if ! command -v rt > /dev/null; then
-    echo "$0: the Rattle toolchain's rt is not on the path" >&2
-    exit 2
-fi
-if ! log=$(rt check "$program" 2>&1); then
-    printf '%s\n' "$log" >&2
-    exit 1
-fi
 . scripts/runner.sh
 runner "$program"
-# The program itself has no exit status to set: it writes its answer to standard output, or says on standard error why there is none.
+# A program writes its answer to standard output, or says on standard error why there is none. Its status may be 0 then too.
 answer=$(mktemp)
 trap 'rm -f "$answer"' EXIT
-if [ "$program" = hurdlesong ]; then
-    "${run[@]}" < "$file" > "$answer"
-else
-    "${run[@]}" "$epsilon" "$file" > "$answer"
-fi
+case $file in
+*.job) "$program" < "$file" > "$answer" ;;
+*) "$program" "$epsilon" "$file" > "$answer" ;;
+esac
 cat "$answer"
 test -s "$answer"

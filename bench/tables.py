@@ -1,4 +1,4 @@
-# Counts the instructions of target/bin/hurdlesong (cachegrind, the whole process) and prints them as tables. The C program to compare with
+# Counts the instructions of crates/hurdlesong/out/hurdlesong (cachegrind, the whole process) and prints them as tables. The C program to compare with
 # is not part of the project; what it took stands in baseline.txt.
 import concurrent.futures
 import math
@@ -12,7 +12,7 @@ import jobs
 
 HERE = os.path.dirname(os.path.realpath(__file__))
 STORED = os.path.join(HERE, "..", "crates", "test_vectors", "data")
-PROGRAM = os.path.join(HERE, "..", "target", "bin", "hurdlesong")
+PROGRAM = os.path.join(HERE, "..", "crates", "hurdlesong", "out", "hurdlesong")
 LISTED = "P5 R1 R3 cube7_w64_huge slow_core96 climb_okrounds_1 w_rand_64_01".split()
 COUNTER = ["valgrind", "--tool=cachegrind", "--cache-sim=no", "--cachegrind-out-file=/dev/null"]
 

@@ -1,5 +1,5 @@
-//! Links the archive `libhurdlesong_c.a`, which is made by `rt staticlib hurdlesong_c`: from the
-//! folder named by HURDLESONG_ARCHIVE, else from `target/staticlib` beside this package.
+//! Links the archive `libhurdlesong_c.a`, which is made by `scripts/archive.sh`: from the folder
+//! named by HURDLESONG_ARCHIVE, else from `target/staticlib` beside this package.
 
 use std::env;
 use std::fs;
@@ -23,7 +23,7 @@ fn main() {
         }
         _ => {
             eprintln!(
-                "no archive {}: run `rt staticlib hurdlesong_c` first, or name its folder by \
+                "no archive {}: run `scripts/archive.sh` first, or name its folder by \
                  HURDLESONG_ARCHIVE",
                 archive.display()
             );

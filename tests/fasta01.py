@@ -8,7 +8,7 @@ Number 0 is success; 20 to 26 are the refusals, whose `used` is 0 and whose bloc
 Its author had not seen the library. Run as a program, it compares the built program `test_fasta` with answer() on texts made from a seed:
     python3 tests/fasta01.py [SEED]   prints the counts by group and answer, and every kind of difference; some 340,000 texts, many minutes
 """
-import collections, itertools, os, pathlib, platform, random, shutil, struct, subprocess, sys, tempfile
+import collections, itertools, os, pathlib, random, struct, subprocess, sys, tempfile
 
 SEQUENCES, STATES = 256, 64
 LEAST = 12 + 2 * STATES + SEQUENCES * STATES            # 16,524 bytes
@@ -210,13 +210,9 @@ def groups(seed):
 # ---- the comparison ----
 
 def command():
-    """The program is for x86-64 Linux; on another processor the toolchain's emulator runs it."""
-    kit = pathlib.Path(os.path.realpath(shutil.which("rt"))).parent.parent
-    tools = kit / "on" / platform.machine() / "toolchain"
-    program = pathlib.Path(__file__).resolve().parent.parent / "target" / "bin" / "test_fasta"
-    words = [tools / "lib" / "ld-linux-x86-64.so.2", "--library-path", tools / "lib", program]
-    emulator = tools / "bin" / "qemu-x86_64"
-    return [str(w) for w in ([emulator] if emulator.exists() else []) + words]
+    """The program as `rt ci`, or `rt run` in its crate's folder, builds it."""
+    crate = pathlib.Path(__file__).resolve().parent.parent / "crates" / "test_fasta"
+    return [str(crate / "out" / "test_fasta")]
 
 
 def printed(a):

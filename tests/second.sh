@@ -23,7 +23,6 @@ package=(--quiet --release --offline --locked --manifest-path tests/second/Cargo
 quietly cargo test "${package[@]}"
 quietly cargo build "${package[@]}"
 [ "${1:-}" != --build ] || exit 0
-quietly rt check test_worker
 . scripts/runner.sh
 runner test_worker
-exec target/second/release/second "$@" "${run[@]}"
+exec target/second/release/second "$@" "$program"

@@ -1,6 +1,6 @@
 //! Hurdlesong for Rust: haplotype networks, proved. The functions are in `libhurdlesong_c.a`
-//! (x86-64 Linux), which `rt staticlib hurdlesong_c` makes; this crate lends them memory without
-//! `unsafe` for its users.
+//! (x86-64 Linux), which `scripts/archive.sh` makes; this crate lends them memory without `unsafe`
+//! for its users.
 //!
 //! Each function answers for every input, however damaged, never panics, and alters nothing but
 //! what it is lent as `&mut`. What holds of them is proved of the library's source. What the

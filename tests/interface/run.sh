@@ -1,7 +1,7 @@
 #!/usr/bin/env bash
 # Builds and runs the tests of the C and the Rust interface over an archive:
 #
-#   tests/interface/run.sh FOLDER      FOLDER holds libhurdlesong_c.a, as target/staticlib does
+#   tests/interface/run.sh FOLDER      FOLDER holds libhurdlesong_c.a, as target/staticlib does behind scripts/archive.sh
 #
 # The archive is x86-64. On such a machine the tests run natively, by cc and cargo; on another one by a cross compiler and an emulator, with
 # Debian's rustc and cargo, since Rust's std for x86-64 has to be of their version. Taken from the environment, else looked for:
@@ -18,7 +18,7 @@ here=$(cd "$(dirname "$0")" && pwd)
 top=$(cd "$here/../.." && pwd)
 target=x86_64-unknown-linux-gnu
 if [ $# -ne 1 ] || [ ! -f "$1/libhurdlesong_c.a" ]; then
-    echo "usage: $0 FOLDER, which holds libhurdlesong_c.a: run \`rt staticlib hurdlesong_c\` first" >&2
+    echo "usage: $0 FOLDER, which holds libhurdlesong_c.a: run scripts/archive.sh first" >&2
     exit 2
 fi
 archive=$(cd "$1" && pwd)
