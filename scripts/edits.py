@@ -1,7 +1,8 @@
 #!/usr/bin/env python3
 # Prints docs/EDITS.md: every must-fail edit, and which wrong program it is, as the '#' line at its head says.
 # With --check it prints the faults instead, and its exit status is 1 if there is one: docs/EDITS.md is not what this would print, an edit
-# does not begin with a '#' line, or an 'old:' text does not stand exactly once in its file.
+# does not begin with a '#' line, names a file that is not there, has a line that the gate does not read, or changes nothing, or an 'old:'
+# text does not stand exactly once in its file.
 import sys
 from pathlib import Path
 
@@ -46,19 +47,30 @@ def faults_of(edit):
     if not meaning(edit):
         yield "does not begin with a '#' line"
     crate = edit.parent.parent
-    files, name, old = {}, None, None
+    were, files, name, old, stands = {}, {}, None, None, True
     for line in edit.read_text().splitlines():
         key, _, text = line.partition(": ")
         if key == "file":
             name = text
-            files.setdefault(name, (crate / name).read_text())
+            if not name.startswith(("src/", "specs/", "proofs/")) or not (crate / name).is_file():
+                yield f"there is no file {name} of src/, specs/ or proofs/"
+                return
+            were[name] = files[name] = files.get(name, (crate / name).read_text())
         elif key == "old":
             old = text
         elif key in ("new", "new:"):
+            if name is None or old is None:
+                yield "a 'new:' line stands before any 'file:' or 'old:' line"
+                return
             found = files[name].count(old)
             if found != 1:
+                stands = False
                 yield f"'{old}' stands {found} times in {name}"
             files[name] = files[name].replace(old, text, 1)
+        elif line.strip() and not line.startswith("#"):
+            yield f"'{line}' is no line that the gate reads"
+    if stands and files == were:
+        yield "it changes nothing"
 
 
 def check():

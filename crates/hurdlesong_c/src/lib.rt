@@ -1,5 +1,6 @@
 // The room of the interface for C and Rust: the call, the row lookup and the text, over numbers and slices. Each function passes on what
-// the room below says; include/hurdlesong.h has the same words for C. A slice is a pointer and a length there.
+// the room below says; include/hurdlesong.h has the same words for C. A slice is a pointer and a length there. `hurdlesong_archive` hands these
+// functions to C, under their names.
 
 #![tactic(auto)]
 
@@ -14,8 +15,7 @@ use rules::{Answer, Link};
 use text::{refusal_text, tell_text, text};
 
 // Every job gets an answer: its number, its place and the bytes used.
-#[unsafe(no_mangle)]
-pub extern "C" fn hurdlesong_call(
+pub fn hurdlesong_call(
     job: &[u8],
     res: &mut [u8],
     states: &mut [u8],
@@ -29,16 +29,14 @@ pub extern "C" fn hurdlesong_call(
 }
 
 // Where the states of a type lie, in the job or in the result block.
-#[unsafe(no_mangle)]
-pub extern "C" fn hurdlesong_states(job: &[u8], block: &[u8], number: usize) -> Place
+pub fn hurdlesong_states(job: &[u8], block: &[u8], number: usize) -> Place
     ensures { Points job.now block.now number result }
 {
     place_of(job, block, number)
 }
 
 // The text of an answer, by the number and the place that were told of it: a network is printed from job and block, a refusal from these two.
-#[unsafe(no_mangle)]
-pub extern "C" fn hurdlesong_text<'a>(
+pub fn hurdlesong_text<'a>(
     job: &'a [u8],
     block: &'a [u8],
     number: usize,
