@@ -26,7 +26,7 @@ over_gate() {
 }
 
 if ! newest "$made"; then
-    echo "proving and building the archive; the first time this takes long" >&2
+    proving "the archive"
     if ! over_gate > /dev/null 2>&1 && ! log=$(cd "crates/$crate" && rt lib 2>&1 < /dev/null); then
         printf '%s\n' "$log" >&2
         exit 1

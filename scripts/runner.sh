@@ -6,17 +6,22 @@ newest() {
     [ -e "$1" ] && [ -z "$(find crates.txt crates/*/src crates/*/specs crates/*/proofs -newer "$1" -print -quit)" ]
 }
 
+# proving WHAT: says that this is done now, which may take long, or that it cannot be done here.
+proving() {
+    if ! command -v rt > /dev/null; then
+        echo "$0: the Rattle toolchain's rt is not on the path" >&2
+        return 2
+    fi
+    echo "proving and building $1; the first time this takes long" >&2
+}
+
 # runner NAME: sets `program` to the program of the crate NAME. `rt ci` leaves one for each program that it proves; where that is missing or
 # older than the sources, `rt run` proves and builds it. It also runs what it builds: over an empty input, which each program here answers.
 runner() {
     local log
     program=crates/$1/out/$1
     newest "$program" && return
-    if ! command -v rt > /dev/null; then
-        echo "$0: the Rattle toolchain's rt is not on the path" >&2
-        return 2
-    fi
-    echo "proving and building $1; the first time this takes long" >&2
+    proving "$1" || return
     if ! log=$(cd "crates/$1" && rt run "$1" 2>&1 > /dev/null < /dev/null); then
         printf '%s\n' "$log" >&2
         return 1
