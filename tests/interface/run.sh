@@ -1,7 +1,7 @@
 #!/usr/bin/env bash
 # Builds and runs the tests of the C and the Rust interface over an archive:
 #
-#   tests/interface/run.sh FOLDER      FOLDER holds libhurdlesong_c.a, as target/staticlib does behind scripts/archive.sh
+#   tests/interface/run.sh FOLDER      FOLDER holds libhurdlesong_c.a, as target/staticlib does once scripts/archive.sh ran
 #
 # The archive is x86-64. On such a machine the tests run natively, by cc and cargo; on another one by a cross compiler and an emulator, with
 # Debian's rustc and cargo, since Rust's std for x86-64 has to be of their version. Taken from the environment, else looked for:
