@@ -1,12 +1,10 @@
 -- `lookup::place_of` meets its contract: where job and block do not match, the states lie nowhere.
 use mathlib.Core.Path.{sym, ◌∙◌}
-use borrow.Author.Rules.{rules}
-use borrow.Author.Tests.{not-true, not-false}
 use Rattle.lookup.proofs.Rows.{unmatched}
 use Rattle.lookup.proofs.place_of.Goals as goal
 
 pub returns-then-not-block_matches : goal.returns-then-not-block_matches
-returns-then-not-block_matches c = unmatched _ _ _ (sym c.block_matches.ensures ∙ not-true _ c.if-not-block_matches.true)
+returns-then-not-block_matches c = unmatched _ _ _ (sym c.block_matches.ensures ∙ c.if-not-block_matches.true)
 
 pub place_in-requires : goal.place_in-requires
-place_in-requires c = sym c.block_matches.ensures ∙ not-false _ c.if-not-block_matches.false
+place_in-requires c = sym c.block_matches.ensures ∙ c.if-not-block_matches.false

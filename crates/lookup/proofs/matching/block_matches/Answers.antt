@@ -1,10 +1,8 @@
 -- `matching::block_matches` meets its contract: the job is tested first, and the block's header by the width of a job that passes.
-use mathlib.Core.Path.{◌≡◌, sym, ap, ◌∙◌}
+use mathlib.Core.Path.{sym, ap, ◌∙◌}
 use native.Mathlib.Omega.{arith}
-use borrow.Author.Rules.{rules}
 use borrow.Author.Tests.{eq-eqb, ne_eqb}
 use Rattle.rules.specs.Answers.{number}
-use Rattle.rules.specs.Job.{checked}
 use Rattle.rules.proofs.Job.{passed_is}
 use Rattle.lookup.proofs.matching.block_matches.Goals as goal
 
