@@ -1,4 +1,4 @@
--- `text::refusal_within` meets its contract: with room and without.
+-- `text::refusal_within` meets its contract: where there is room, it leaves what Left.antt says.
 use mathlib.Core.Path.{sym, ◌∙◌}
 use borrow.Author.Tests.{leb-true}
 use Rattle.text.proofs.Left.{line-left}

@@ -1,4 +1,4 @@
--- `text::text_within` meets its contract: each of its four ends leaves what Left.antt says.
+-- `text::text_within` meets its contract: where a network is printed, it leaves what Left.antt says.
 use mathlib.Core.Path.{sym, ◌∙◌}
 use native.Mathlib.Omega.{arith}
 use borrow.Author.Tests.{leb-true}
