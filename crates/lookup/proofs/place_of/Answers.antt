@@ -5,6 +5,3 @@ use Rattle.lookup.proofs.place_of.Goals as goal
 
 pub returns-then-not-block_matches : goal.returns-then-not-block_matches
 returns-then-not-block_matches c = unmatched _ _ _ (sym c.block_matches.ensures ∙ c.if-not-block_matches.true)
-
-pub place_in-requires : goal.place_in-requires
-place_in-requires c = sym c.block_matches.ensures ∙ c.if-not-block_matches.false
