@@ -1,3 +1,2 @@
 pub mod Steps
 pub mod Left
-pub mod Areas
