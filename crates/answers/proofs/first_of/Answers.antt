@@ -1,6 +1,5 @@
 -- `answers::first_of` meets its contract.
 use mathlib.Core.Path.{sym, ◌∙◌}
-use borrow.Author.Rules.{rules}
 use Rattle.answers.proofs.First.{first-refuses, first_passes}
 use Rattle.answers.proofs.first_of.Goals as goal
 

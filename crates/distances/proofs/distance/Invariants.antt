@@ -1,7 +1,6 @@
 -- `distances::distance` meets its contract: after c characters the sum is that of the first c.
 use Prim.Native.Nat.{◌-◌}
-use native.Mathlib.Omega.{arith}
-use Rattle.distances.proofs.Summed.{Summed, none_summed, all_summed, one_more}
+use Rattle.distances.proofs.Summed.{Summed}
 use Rattle.distances.proofs.distance.Given as goal
 
 abbrev pub invariant-loop-c : goal.invariant-loop-c

@@ -1,9 +1,7 @@
 -- `distances::measure` meets its contract: the new pairs are passed column by column.
-use Prim.Native.Nat.{◌-◌, ◌≤◌}
 use native.Mathlib.Omega.{arith}
 use mathlib.Core.Path.{refl}
-use Rattle.distances.specs.Area.{CellsWritten, New, stored_apart}
-use Rattle.distances.proofs.Area.{Passed, by_column, part-passed, all-passed}
+use Rattle.distances.proofs.Area.{part-passed, all-passed}
 use Rattle.distances.proofs.measure.Goals as goal
 
 pub measure_one-requires : goal.measure_one-requires

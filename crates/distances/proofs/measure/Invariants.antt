@@ -1,9 +1,7 @@
 -- `distances::measure` meets its contract: the new pairs are passed column by column.
 use Prim.Native.Nat.{◌-◌, ◌≤◌}
-use native.Mathlib.Omega.{arith}
-use mathlib.Core.Path.{refl}
 use Rattle.distances.specs.Area.{CellsWritten, New, stored_apart}
-use Rattle.distances.proofs.Area.{Passed, by_column, part-passed, all-passed}
+use Rattle.distances.proofs.Area.{Passed, by_column}
 use Rattle.distances.proofs.measure.Given as goal
 
 abbrev pub invariant-loop-j : goal.invariant-loop-j

@@ -1,8 +1,7 @@
 -- `distances::measure_one` meets its contract: the cells of type j are passed line by line.
 use Prim.Native.Nat.{◌+◌, ◌-◌}
-use native.Mathlib.Omega.{arith}
 use Rattle.distances.specs.Area.{CellsWritten, New, stored_apart}
-use Rattle.distances.proofs.Area.{Passed, by_line, cell-passed, all-passed}
+use Rattle.distances.proofs.Area.{Passed, by_line}
 use Rattle.distances.proofs.measure_one.Given as goal
 
 abbrev pub invariant-loop-i : goal.invariant-loop-i

@@ -2,10 +2,9 @@
 use mathlib.Core.Path.{ap, ◌∙◌}
 use native.Mathlib.Omega.{arith}
 use lib.ListN.{length-take}
-use borrow.Author.Rules.{rules}
 use Rattle.rules.specs.Call.{padded}
 use Rattle.memory.proofs.Placed.{placed-padded}
-use Rattle.job.proofs.Reading.{RowEnds, row_ends, row_is}
+use Rattle.job.proofs.Reading.{row_ends, row_is}
 use Rattle.job.proofs.row.Goals as goal
 
 pub overflow_mul-from : goal.overflow_mul-from

@@ -1,6 +1,5 @@
 -- `links::link` meets its contract: spans, and then marks by them.
 use native.Mathlib.Omega.{arith}
-use borrow.Author.Rules.{rules}
 use Rattle.links.proofs.Marks.{found}
 use Rattle.links.proofs.link.Goals as goal
 

@@ -1,8 +1,8 @@
 -- `links::link_count` meets its contract: the marks of the types passed are counted, before type i and behind it.
 use mathlib.Core.Path.{◌≡◌}
-use Prim.Native.Nat.{◌+◌, ◌≤◌, ◌<◌, min}
+use Prim.Native.Nat.{min}
 use native.Mathlib.Omega.{arith}
-use Rattle.links.proofs.Marks.{Counted, counted-at, counted-more, counted_self, counted-all}
+use Rattle.links.proofs.Marks.{counted-at, counted-more, counted_self, counted-all}
 use Rattle.links.proofs.link_count.Goals as goal
 use Rattle.links.proofs.link_count.Goals.{then-i-n, else-i-n}
 

@@ -1,9 +1,6 @@
 -- `links::link_count` meets its contract: the marks of the types passed are counted, before type i and behind it.
-use mathlib.Core.Path.{◌≡◌}
-use mathlib.Core.Logic.{⊎_elim}
-use Prim.Native.Nat.{◌-◌, ◌≤◌, ◌<◌, min}
-use native.Mathlib.Omega.{arith}
-use Rattle.links.proofs.Marks.{Counted, counted-at, counted-more, counted_self, counted-all}
+use Prim.Native.Nat.{◌-◌, ◌<◌}
+use Rattle.links.proofs.Marks.{Counted}
 use Rattle.links.proofs.link_count.Given as goal
 
 abbrev pub invariant-loop-j : goal.invariant-loop-j

@@ -1,6 +1,5 @@
 -- `links::linked` meets its contract.
 use native.Mathlib.Omega.{arith}
-use borrow.Author.Rules.{rules}
 use borrow.Author.Tests.{eq-eqb, ne_eqb}
 use Rattle.links.proofs.linked.Goals as goal
 

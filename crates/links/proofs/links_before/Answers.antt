@@ -1,7 +1,6 @@
 -- `links::links_before` meets its contract: the marks of the types passed are counted.
-use Prim.Native.Nat.{◌-◌}
 use native.Mathlib.Omega.{arith}
-use Rattle.links.proofs.Marks.{Counted, counted_none, counted-more, counted-all}
+use Rattle.links.proofs.Marks.{counted_none, counted-more, counted-all}
 use Rattle.links.proofs.links_before.Goals as goal
 
 pub loop-j-init : goal.loop-j-init

@@ -1,7 +1,6 @@
 -- `links::links_before` meets its contract: the marks of the types passed are counted.
 use Prim.Native.Nat.{◌-◌}
-use native.Mathlib.Omega.{arith}
-use Rattle.links.proofs.Marks.{Counted, counted_none, counted-more, counted-all}
+use Rattle.links.proofs.Marks.{Counted}
 use Rattle.links.proofs.links_before.Given as goal
 
 abbrev pub invariant-loop-j : goal.invariant-loop-j

@@ -1,8 +1,7 @@
 -- `links::mark` meets its contract: the mirror cells are passed line by line. Each is read before it is written.
 use Prim.Native.Nat.{◌-◌}
-use native.Mathlib.Omega.{arith}
 use Rattle.distances.specs.Area.{CellsWritten}
-use Rattle.distances.proofs.Area.{Passed, by_line, cell-kept, part-passed, all-passed}
+use Rattle.distances.proofs.Area.{Passed, by_line}
 use Rattle.spans.specs.Tree.{Mirror}
 use Rattle.links.specs.Marks.{mark}
 use Rattle.links.proofs.mark.Given as goal

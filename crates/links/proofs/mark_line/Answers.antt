@@ -1,9 +1,6 @@
 -- `links::mark_line` meets its contract: the cells of the line are passed column by column. Each is read before it is written.
-use Prim.Native.Nat.{◌-◌}
 use native.Mathlib.Omega.{arith}
-use Rattle.distances.specs.Area.{CellsWritten, Line}
-use Rattle.distances.proofs.Area.{Passed, by_column, cell-kept, cell-passed, all-passed}
-use Rattle.links.specs.Marks.{mark}
+use Rattle.distances.proofs.Area.{cell-kept, cell-passed, all-passed}
 use Rattle.links.proofs.mark_line.Goals as goal
 
 pub loop-i-preserved : goal.loop-i-preserved

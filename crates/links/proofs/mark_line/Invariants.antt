@@ -1,8 +1,7 @@
 -- `links::mark_line` meets its contract: the cells of the line are passed column by column. Each is read before it is written.
 use Prim.Native.Nat.{◌-◌}
-use native.Mathlib.Omega.{arith}
 use Rattle.distances.specs.Area.{CellsWritten, Line}
-use Rattle.distances.proofs.Area.{Passed, by_column, cell-kept, cell-passed, all-passed}
+use Rattle.distances.proofs.Area.{Passed, by_column}
 use Rattle.links.specs.Marks.{mark}
 use Rattle.links.proofs.mark_line.Given as goal
 

@@ -1,8 +1,7 @@
 -- `medians::median` meets its contract: after c characters the first c states stand in the row.
 use mathlib.Core.Path.{refl}
-use Prim.Native.Nat.{◌-◌}
 use native.Mathlib.Omega.{arith}
-use Rattle.medians.proofs.Taken.{Taken, none-taken, one-taken, all-taken}
+use Rattle.medians.proofs.Taken.{none-taken, one-taken, all-taken}
 use Rattle.medians.proofs.median.Goals as goal
 
 pub loop-c-init : goal.loop-c-init

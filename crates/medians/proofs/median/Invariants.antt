@@ -1,8 +1,6 @@
 -- `medians::median` meets its contract: after c characters the first c states stand in the row.
-use mathlib.Core.Path.{refl}
 use Prim.Native.Nat.{◌-◌}
-use native.Mathlib.Omega.{arith}
-use Rattle.medians.proofs.Taken.{Taken, none-taken, one-taken, all-taken}
+use Rattle.medians.proofs.Taken.{Taken}
 use Rattle.medians.proofs.median.Given as goal
 
 abbrev pub invariant-loop-c : goal.invariant-loop-c

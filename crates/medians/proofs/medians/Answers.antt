@@ -1,6 +1,5 @@
 -- `medians::medians` meets its contract: the three median vectors are made one after the other, each with its own row first.
 use mathlib.Core.Path.{◌∙◌}
-use borrow.Author.Rules.{rules}
 use Rattle.medians.proofs.Own.{median-second, median_third}
 use Rattle.medians.proofs.medians.Goals as goal
 

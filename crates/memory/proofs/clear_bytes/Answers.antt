@@ -1,8 +1,6 @@
 -- `memory::clear_bytes` meets its contract.
-use Prim.Native.Nat.{◌-◌}
 use native.Mathlib.Omega.{arith}
-use lib.ListN.{length}
-use Rattle.memory.proofs.Placed.{Cleared, cleared_more, cleared-all}
+use Rattle.memory.proofs.Placed.{cleared_more, cleared-all}
 use Rattle.memory.proofs.clear_bytes.Goals as goal
 
 pub loop-i-preserved : goal.loop-i-preserved

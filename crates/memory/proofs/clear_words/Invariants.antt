@@ -1,8 +1,7 @@
 -- `memory::clear_words` meets its contract.
 use Prim.Native.Nat.{◌-◌}
-use native.Mathlib.Omega.{arith}
 use lib.ListN.{length}
-use Rattle.memory.proofs.Placed.{Cleared, cleared_more, cleared-all}
+use Rattle.memory.proofs.Placed.{Cleared}
 use Rattle.memory.proofs.clear_words.Given as goal
 
 abbrev pub invariant-loop-i : goal.invariant-loop-i

@@ -1,10 +1,9 @@
 -- `memory::eight_at` meets its contract: from byte k on the number is made.
 use mathlib.Core.Path.{refl}
-use Prim.Native.Nat.{ℕ, ◌+◌, ◌<◌}
+use Prim.Native.Nat.{◌+◌}
 use native.Mathlib.Omega.{arith}
-use lib.ListN.{get_or}
 use mir.Facts.{Fits-8_64}
-use Rattle.memory.proofs.Digits.{Spelt, none_spelt, one_spelt, one-fits, all_spelt}
+use Rattle.memory.proofs.Digits.{none_spelt, one_spelt, one-fits, all_spelt}
 use Rattle.memory.proofs.eight_at.Goals as goal
 
 pub loop-k-init : goal.loop-k-init

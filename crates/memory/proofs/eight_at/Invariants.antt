@@ -1,10 +1,7 @@
 -- `memory::eight_at` meets its contract: from byte k on the number is made.
-use mathlib.Core.Path.{refl}
 use Prim.Native.Nat.{ℕ, ◌+◌, ◌<◌}
-use native.Mathlib.Omega.{arith}
 use lib.ListN.{get_or}
-use mir.Facts.{Fits-8_64}
-use Rattle.memory.proofs.Digits.{Spelt, none_spelt, one_spelt, one-fits, all_spelt}
+use Rattle.memory.proofs.Digits.{Spelt}
 use Rattle.memory.proofs.eight_at.Given as goal
 
 abbrev pub invariant-loop-k : goal.invariant-loop-k

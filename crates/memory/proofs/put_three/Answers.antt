@@ -1,6 +1,5 @@
 -- `memory::put_three` meets its contract: three numbers, each behind the one before.
 use native.Mathlib.Omega.{arith}
-use borrow.Author.Rules.{rules}
 use Rattle.memory.proofs.Three.{three-written}
 use Rattle.memory.proofs.put_three.Goals as goal
 

@@ -6,7 +6,6 @@ use native.Mathlib.Numerals.{add-one}
 use native.Mathlib.Omega.{arith}
 use lib.ListN.{set}
 use lib.Seq.{sets-eq}
-use borrow.Author.Rules.{rules}
 use Rattle.rules.specs.Result.{words}
 use Rattle.memory.specs.Placed.{placed}
 use Rattle.memory.proofs.put_word.Goals as goal

@@ -1,13 +1,7 @@
 -- `network::refuse_or_draw` meets its contract: the first refusal of checks 1 to 7, or what is drawn.
-use mathlib.Core.Path.{◌≡◌, sym, ap₂, ◌∙◌}
-use lib.ListN.{length}
-use borrow.Author.Rules.{rules}
-use Rattle.rules.specs.Answers.{number}
-use Rattle.rules.specs.Job.{checked}
-use Rattle.rules.specs.declared.Answer.{Answer}
+use mathlib.Core.Path.{sym, ap₂, ◌∙◌}
 use Rattle.answers.specs.Told.{first_of}
 use Rattle.readback.proofs.Lent.{enough}
-use Rattle.job.specs.Areas.{lengths, areas_answer}
 use Rattle.network.proofs.draw.Verdicts.{first-passed}
 use Rattle.network.proofs.Steps.{answered-first, answered-drawn}
 use Rattle.network.proofs.refuse_or_draw.Goals as goal

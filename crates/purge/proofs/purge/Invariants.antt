@@ -1,7 +1,5 @@
 -- `purge::purge` meets its contract: whenever links were found, memory holds a run that purges to what the run at entry purges to.
-use Prim.Native.Nat.{◌<◌}
-use native.Mathlib.Omega.{arith}
-use Rattle.purge.proofs.Purging.{Purging, purging_none, purging_chosen, fewer-types, same_phase, one_time_more, all-purged}
+use Rattle.purge.proofs.Purging.{Purging}
 use Rattle.purge.proofs.purge.Given as goal
 
 abbrev pub invariant-loop-stay : goal.invariant-loop-stay

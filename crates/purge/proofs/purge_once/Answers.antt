@@ -1,6 +1,5 @@
 -- `purge::purge_once` meets its contract: rows, distances and kinds are what is left of them.
 use native.Mathlib.Omega.{arith}
-use borrow.Author.Rules.{rules}
 use Rattle.purge.proofs.stay.Places.{chosen_more}
 use Rattle.purge.proofs.purge_once.Goals as goal
 

@@ -1,5 +1,4 @@
 -- `purge::survey` meets its contract: the links are found at the phase's epsilon.
-use borrow.Author.Rules.{rules}
 use Rattle.purge.proofs.survey.Goals as goal
 
 pub returns : goal.returns

@@ -2,7 +2,7 @@
 use Prim.Native.Nat.{◌≤◌}
 use native.Mathlib.Omega.{arith}
 use lib.ListN.{length}
-use Rattle.rules.specs.Result.{words, links_offset}
+use Rattle.rules.specs.Result.{words}
 use Rattle.memory.proofs.Follows.{follows-once, follows_on}
 use Rattle.result.proofs.put_header.Goals as goal
 

@@ -22,7 +22,7 @@ put_header-requires c =
     let s = c.sampled-s in
     let short : links_offset a.held.state.types s.result a.m ≤ 8976 = links-short _ ready.few ready.narrow in
     let room : links_offset a.held.state.types s.result a.m ≤ length a.out.now =
-        omega (arith, ready.room, block_size a.m (network_in a.m a.states.now a.area.now a.held), front_length a.m a.states.now a.area.now a.held s.result s.ensures.0) in
+    omega (arith, ready.room, block_size a.m (network_in a.m a.states.now a.area.now a.held), front_length a.m a.states.now a.area.now a.held s.result s.ensures.0) in
     (ready.narrow, ready.few, s.ensures.1, omega (arith, c.count_links-links.ensures, few), ready.rounds_fit, omega arith)
 
 pub put_records-requires : goal.put_records-requires
@@ -31,7 +31,7 @@ put_records-requires c =
     let ready = c.requires in
     let s = c.sampled-s in
     let room : links_offset a.held.state.types s.result a.m ≤ length a.out.now =
-        omega (arith, ready.room, block_size a.m (network_in a.m a.states.now a.area.now a.held), front_length a.m a.states.now a.area.now a.held s.result s.ensures.0) in
+    omega (arith, ready.room, block_size a.m (network_in a.m a.states.now a.area.now a.held), front_length a.m a.states.now a.area.now a.held s.result s.ensures.0) in
     (ready.few, ready.origins_fit, omega arith)
 
 pub put_inferred_rows-requires : goal.put_inferred_rows-requires
@@ -40,7 +40,7 @@ put_inferred_rows-requires c =
     let ready = c.requires in
     let s = c.sampled-s in
     let room : links_offset a.held.state.types s.result a.m ≤ length a.out.now =
-        omega (arith, ready.room, block_size a.m (network_in a.m a.states.now a.area.now a.held), front_length a.m a.states.now a.area.now a.held s.result s.ensures.0) in
+    omega (arith, ready.room, block_size a.m (network_in a.m a.states.now a.area.now a.held), front_length a.m a.states.now a.area.now a.held s.result s.ensures.0) in
     (ready.states_fit, ready.narrow, ready.few, s.ensures.1, omega arith)
 
 pub returns : goal.returns

@@ -1,13 +1,9 @@
 -- `round::put_rows` meets its contract: the rows behind the first t are copied behind the new ones, and both come back as one.
-use mathlib.Core.Path.{◌≡◌, sym, ap, ◌∙◌}
-use mathlib.Core.List.{◌++◌}
-use Prim.Native.Nat.{◌+◌, ◌*◌, ◌-◌}
+use mathlib.Core.Path.{ap, ◌∙◌}
+use Prim.Native.Nat.{◌*◌}
 use native.Mathlib.Omega.{arith}
-use borrow.Author.Rules.{rules}
-use lib.ListN.{length, take}
 use Rattle.memory.specs.Placed.{placed}
-use Rattle.round.proofs.Behind.{rows_behind, between-size}
-use Rattle.types.specs.State.{rows_from}
+use Rattle.round.proofs.Behind.{rows_behind}
 use Rattle.round.proofs.insert_rows.Goals as goal
 
 -- What is read of the local array is the new rows and those behind.

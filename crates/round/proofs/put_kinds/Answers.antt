@@ -1,8 +1,7 @@
 -- `round::put_kinds` meets its contract: so many kinds are stored.
 use mathlib.Core.Path.{◌≡◌}
-use Prim.Native.Nat.{◌-◌, ◌≤◌}
+use Prim.Native.Nat.{◌-◌}
 use native.Mathlib.Omega.{arith}
-use Rattle.round.specs.Grown.{kinds_with}
 use Rattle.round.proofs.Origins.{with_none, with_more}
 use Rattle.round.proofs.put_kinds.Goals as goal
 

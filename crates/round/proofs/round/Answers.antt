@@ -1,6 +1,5 @@
 -- `round::round` meets its contract: the rows found at the phase's epsilon are added, if there are any.
 use native.Mathlib.Omega.{arith}
-use borrow.Author.Rules.{rules}
 use Rattle.round.proofs.Turned.{none-added, some-added}
 use Rattle.round.proofs.round.Goals as goal
 

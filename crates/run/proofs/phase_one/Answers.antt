@@ -1,7 +1,6 @@
 -- `run::phase_one` meets its contract: turn after turn, each of which makes a type that was never made, until one adds none.
-use Prim.Native.Nat.{◌+◌, ◌-◌, min}
 use native.Mathlib.Omega.{arith}
-use Rattle.run.proofs.Turning.{Looping, going_first, going_over, looping_none, looping_more}
+use Rattle.run.proofs.Turning.{going_first, going_over, looping_none, looping_more}
 use Rattle.run.proofs.phase_one.Goals as goal
 
 pub turn-now-requires : goal.turn-now-requires

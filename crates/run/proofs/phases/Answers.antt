@@ -1,6 +1,5 @@
 -- `run::phases` meets its contract: Phase I had no room, or settled; then Phase II.
 use native.Mathlib.Omega.{arith}
-use borrow.Author.Rules.{rules}
 use Rattle.run.proofs.Ending.{ended-full, ended-kept}
 use Rattle.run.proofs.phases.Goals as goal
 

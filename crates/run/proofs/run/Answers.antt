@@ -1,10 +1,5 @@
 -- `run::run` meets its contract: too many types, which `begin` refuses; or both phases, from where `begin` leaves the sampled types.
-use mathlib.Core.Path.{◌≡◌}
-use mathlib.Core.Bool.{false}
 use native.Mathlib.Omega.{arith}
-use borrow.Author.Rules.{rules}
-use Rattle.rules.specs.Job.{job_rows}
-use Rattle.rules.specs.Types.{has_too_many}
 use Rattle.rules.proofs.Job.{passed_is}
 use Rattle.run.proofs.start.Beginning.{many-told, few-told}
 use Rattle.run.proofs.Beginning.{ran-types, ran_phases, safe-first}

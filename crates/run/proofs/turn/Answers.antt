@@ -1,5 +1,4 @@
 -- `run::turn` meets its contract: a purge and a round.
-use borrow.Author.Rules.{rules}
 use Rattle.run.proofs.Turning.{safe-purged, turned}
 use Rattle.run.proofs.turn.Goals as goal
 

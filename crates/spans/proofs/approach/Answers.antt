@@ -1,9 +1,7 @@
 -- `spans::approach` meets its contract: the types passed are as near as v or the tree, and the least of those outside is known.
 use mathlib.Core.Path.{◌≡◌}
-use Prim.Native.Nat.{◌-◌, ◌≤◌, max}
 use native.Mathlib.Omega.{arith}
-use lib.ListN.{get_or}
-use Rattle.spans.specs.Growth.{nearer, Filled, Least}
+use Rattle.spans.specs.Growth.{nearer}
 use Rattle.spans.proofs.Turns.{filled_more, least-none, least_more}
 use Rattle.spans.proofs.approach.Goals as goal
 

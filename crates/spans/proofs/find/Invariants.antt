@@ -1,9 +1,6 @@
 -- `spans::find` meets its contract: of the types passed the last one that fits is found.
-use mathlib.Core.Path.{◌≡◌}
 use Prim.Native.Nat.{◌-◌, ◌≤◌}
-use native.Mathlib.Omega.{arith}
 use Rattle.spans.specs.Growth.{NearestFound}
-use Rattle.spans.proofs.Turns.{found-more}
 use Rattle.spans.proofs.find.Given as goal
 
 abbrev pub invariant-loop-u : goal.invariant-loop-u

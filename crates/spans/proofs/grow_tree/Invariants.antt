@@ -1,10 +1,6 @@
 -- `spans::grow_tree` meets its contract: the nearest type outside joins until all are in the tree.
-use mathlib.Core.Path.{◌∙◌}
-use Prim.Native.Nat.{◌-◌, ◌≤◌, ◌<◌}
-use native.Mathlib.Omega.{arith}
-use lib.ListN.{length-set}
-use borrow.Author.Rules.{rules}
-use Rattle.spans.proofs.TreeGrown.{Growing, growing_none, growing-more, growing_all}
+use Prim.Native.Nat.{◌-◌}
+use Rattle.spans.proofs.TreeGrown.{Growing}
 use Rattle.spans.proofs.grow_tree.Given as goal
 
 abbrev pub invariant-loop-size : goal.invariant-loop-size

@@ -1,8 +1,7 @@
 -- `spans::join_line` meets its contract: the new reach is stored.
 use mathlib.Core.Path.{refl}
-use Prim.Native.Nat.{◌-◌}
 use native.Mathlib.Omega.{arith}
-use Rattle.spans.proofs.Turns.{Reaching, reaching_more, reaching_all}
+use Rattle.spans.proofs.Turns.{reaching_more, reaching_all}
 use Rattle.spans.proofs.join_line.Goals as goal
 
 pub loop-u-preserved : goal.loop-u-preserved

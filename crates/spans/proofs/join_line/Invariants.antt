@@ -1,8 +1,6 @@
 -- `spans::join_line` meets its contract: the new reach is stored.
-use mathlib.Core.Path.{refl}
 use Prim.Native.Nat.{◌-◌}
-use native.Mathlib.Omega.{arith}
-use Rattle.spans.proofs.Turns.{Reaching, reaching_more, reaching_all}
+use Rattle.spans.proofs.Turns.{Reaching}
 use Rattle.spans.proofs.join_line.Given as goal
 
 abbrev pub invariant-loop-u : goal.invariant-loop-u

@@ -1,10 +1,8 @@
 -- `spans::mirror` meets its contract: the mirror cells are passed line by line.
 use Prim.Native.Nat.{◌-◌}
-use native.Mathlib.Omega.{arith}
 use Rattle.distances.specs.Area.{CellsWritten}
-use Rattle.distances.proofs.Area.{Passed, by_line, all-passed}
+use Rattle.distances.proofs.Area.{Passed, by_line}
 use Rattle.spans.specs.Tree.{Mirror, opposite}
-use Rattle.spans.proofs.Turns.{mirror_passed}
 use Rattle.spans.proofs.mirror.Given as goal
 
 abbrev pub invariant-loop-j : goal.invariant-loop-j

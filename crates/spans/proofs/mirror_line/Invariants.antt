@@ -1,10 +1,8 @@
 -- `spans::mirror_line` meets its contract: the line is passed part by part.
 use Prim.Native.Nat.{◌*◌, ◌-◌, ◌≤◌}
-use native.Mathlib.Omega.{arith}
 use Rattle.distances.specs.Area.{CellsWritten, Line}
-use Rattle.distances.proofs.Area.{Passed, by_column, all-passed}
+use Rattle.distances.proofs.Area.{Passed, by_column}
 use Rattle.spans.specs.Tree.{opposite}
-use Rattle.spans.proofs.Turns.{mirror_passed}
 use Rattle.spans.proofs.mirror_line.Given as goal
 
 abbrev pub invariant-loop-k : goal.invariant-loop-k

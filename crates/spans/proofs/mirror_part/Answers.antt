@@ -1,10 +1,6 @@
 -- `spans::mirror_part` meets its contract: the cells are passed column by column. What stands opposite is in no line of theirs.
-use Prim.Native.Nat.{◌-◌, ◌≤◌}
 use native.Mathlib.Omega.{arith}
-use Rattle.distances.specs.Area.{CellsWritten}
-use Rattle.distances.proofs.Area.{Passed, by_column, cell-kept, cell-passed, all-passed}
-use Rattle.spans.specs.Tree.{opposite}
-use Rattle.spans.specs.Growth.{LinePart}
+use Rattle.distances.proofs.Area.{cell-kept, cell-passed, all-passed}
 use Rattle.spans.proofs.mirror_part.Goals as goal
 
 pub loop-i-preserved : goal.loop-i-preserved

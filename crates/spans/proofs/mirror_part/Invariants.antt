@@ -1,8 +1,7 @@
 -- `spans::mirror_part` meets its contract: the cells are passed column by column. What stands opposite is in no line of theirs.
 use Prim.Native.Nat.{◌-◌, ◌≤◌}
-use native.Mathlib.Omega.{arith}
 use Rattle.distances.specs.Area.{CellsWritten}
-use Rattle.distances.proofs.Area.{Passed, by_column, cell-kept, cell-passed, all-passed}
+use Rattle.distances.proofs.Area.{Passed, by_column}
 use Rattle.spans.specs.Tree.{opposite}
 use Rattle.spans.specs.Growth.{LinePart}
 use Rattle.spans.proofs.mirror_part.Given as goal

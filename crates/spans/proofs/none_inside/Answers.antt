@@ -1,9 +1,7 @@
 -- `spans::none_inside` meets its contract: the types passed are outside.
 use mathlib.Core.Path.{◌≡◌, refl, ◌∙◌}
-use Prim.Native.Nat.{◌-◌, ◌≤◌}
 use native.Mathlib.Omega.{arith}
-use lib.ListN.{replicate, get_or-replicate}
-use Rattle.spans.specs.Growth.{Filled}
+use lib.ListN.{get_or-replicate}
 use Rattle.spans.proofs.Turns.{filled_more}
 use Rattle.spans.proofs.none_inside.Goals as goal
 

@@ -1,10 +1,9 @@
 -- `spans::settle` meets its contract: the lines behind place k - 2 are settled.
 use mathlib.Core.Path.{◌≡◌, refl, ◌∙◌}
-use Prim.Native.Nat.{ℕ, ◌+◌, ◌-◌, ◌≤◌, ◌<◌}
+use Prim.Native.Nat.{ℕ, ◌+◌, ◌-◌, ◌≤◌}
 use native.Mathlib.Omega.{arith}
-use lib.ListN.{length, get_or, length-set}
-use borrow.Author.Rules.{rules}
-use Rattle.spans.proofs.Lines.{Settling, settling_none, settling_more, settling_all}
+use lib.ListN.{get_or, length-set}
+use Rattle.spans.proofs.Lines.{settling_none, settling_more, settling_all}
 use Rattle.spans.proofs.settle.Goals as goal
 
 pub loop-k-init : goal.loop-k-init

@@ -1,10 +1,8 @@
 -- `spans::settle` meets its contract: the lines behind place k - 2 are settled.
-use mathlib.Core.Path.{◌≡◌, refl, ◌∙◌}
-use Prim.Native.Nat.{ℕ, ◌+◌, ◌-◌, ◌≤◌, ◌<◌}
-use native.Mathlib.Omega.{arith}
-use lib.ListN.{length, get_or, length-set}
-use borrow.Author.Rules.{rules}
-use Rattle.spans.proofs.Lines.{Settling, settling_none, settling_more, settling_all}
+use mathlib.Core.Path.{◌≡◌}
+use Prim.Native.Nat.{◌≤◌}
+use lib.ListN.{length, get_or}
+use Rattle.spans.proofs.Lines.{Settling}
 use Rattle.spans.proofs.settle.Given as goal
 
 abbrev pub invariant-loop-k : goal.invariant-loop-k

@@ -1,7 +1,6 @@
 -- `spans::settle_line` meets its contract: the new reach is stored where it is less than what stood there.
 use Prim.Native.Nat.{◌-◌, min}
-use native.Mathlib.Omega.{arith}
-use Rattle.spans.proofs.Turns.{Reaching, reaching_more, reaching_all}
+use Rattle.spans.proofs.Turns.{Reaching}
 use Rattle.spans.proofs.settle_line.Given as goal
 
 abbrev pub invariant-loop-u : goal.invariant-loop-u

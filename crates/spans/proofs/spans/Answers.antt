@@ -1,6 +1,5 @@
 -- `spans::spans` meets its contract: distances to the mirror cells, the tree, and then the spans with later types.
 use native.Mathlib.Omega.{arith}
-use borrow.Author.Rules.{rules}
 use Rattle.spans.proofs.TreeGrown.{full-mirrored, spanned-all}
 use Rattle.spans.proofs.spans.Goals as goal
 

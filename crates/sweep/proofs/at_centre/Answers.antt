@@ -1,10 +1,6 @@
 -- `sweep::at_centre` meets its contract: what the triplets with the lower types passed give is swept.
-use mathlib.Core.Path.{sym, ◌∙◌}
-use Prim.Native.Nat.{◌*◌, ◌+◌, ◌-◌, ◌<◌}
-use native.Mathlib.Omega.{arith}
-use Rattle.sweep.specs.Candidate.{WithFirst, AtCentre, Sweepable}
-use Rattle.sweep.specs.Floors.{Passed}
-use Rattle.sweep.proofs.Walk.{Walk, walk_first, walk-next, walk-less, walk-done, few, follower_first, follower_next, which-first, ready_as, ready_on, passed-more, centre_none}
+use Rattle.sweep.specs.Candidate.{WithFirst}
+use Rattle.sweep.proofs.Walk.{walk_first, walk-next, walk-less, walk-done, follower_first, follower_next, which-first, ready_as, ready_on, passed-more, centre_none}
 use Rattle.sweep.proofs.at_centre.Goals as goal
 
 pub loop-a-init : goal.loop-a-init

@@ -1,10 +1,8 @@
 -- `sweep::at_centre` meets its contract: what the triplets with the lower types passed give is swept.
-use mathlib.Core.Path.{sym, ◌∙◌}
-use Prim.Native.Nat.{◌*◌, ◌+◌, ◌-◌, ◌<◌}
-use native.Mathlib.Omega.{arith}
-use Rattle.sweep.specs.Candidate.{WithFirst, AtCentre, Sweepable}
+use Prim.Native.Nat.{◌-◌}
+use Rattle.sweep.specs.Candidate.{AtCentre}
 use Rattle.sweep.specs.Floors.{Passed}
-use Rattle.sweep.proofs.Walk.{Walk, walk_first, walk-next, walk-less, walk-done, few, follower_first, follower_next, which-first, ready_as, ready_on, passed-more, centre_none}
+use Rattle.sweep.proofs.Walk.{Walk}
 use Rattle.sweep.proofs.at_centre.Given as goal
 
 abbrev pub invariant-loop-a : goal.invariant-loop-a

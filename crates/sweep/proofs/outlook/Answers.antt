@@ -1,7 +1,6 @@
 -- `sweep::outlook` meets its contract: by what the distances tell, or because the triplet is settled.
 use mathlib.Core.Path.{refl}
 use mathlib.Core.Logic.{inl, inr}
-use borrow.Author.Rules.{rules}
 use Rattle.sweep.proofs.outlook.Goals as goal
 
 pub returns-then-below-least : goal.returns-then-below-least

@@ -1,12 +1,8 @@
 -- `sweep::sweep` meets its contract: what is met at the types passed is swept, and each floor found anew is one.
-use mathlib.Core.Path.{◌≡◌, sym, ◌∙◌}
-use Prim.Native.Nat.{◌-◌, ◌≤◌, ◌<◌}
+use mathlib.Core.Path.{◌≡◌}
 use native.Mathlib.Omega.{arith}
-use Rattle.medians.specs.Swept.{Swept}
-use Rattle.sweep.specs.Candidate.{Candidate, Everywhere, TablesKept}
-use Rattle.sweep.specs.Floors.{Floors}
 use Rattle.sweep.proofs.Floors.{floors-one}
-use Rattle.sweep.proofs.Walk.{few, kept_then, kept-none, still_ready, everywhere-none, everywhere-more, everywhere-passed}
+use Rattle.sweep.proofs.Walk.{few, kept_then, still_ready, everywhere-more, everywhere-passed}
 use Rattle.sweep.proofs.sweep.Goals as goal
 use Rattle.sweep.proofs.sweep.Goals.{then-floors-c, else-floors-c}
 
@@ -22,13 +18,13 @@ loop-c-preserved c =
     let h = c.loop-c-test.true in
     let stays = l.invariant.2.made_stays in
     elim c.if-floors-c.branch [
-      then-floors-c w ↦ (
+      | then-floors-c w ↦ (
         omega (arith, h),
         rw (w.mismatches-is, w.guesses-is) (kept_then stays l.invariant.1 w.at_centre-met.ensures.kept),
         rw (w.gathered-is, w.search-is) (everywhere-more p.0 l.c l.invariant.2 w.at_centre-met.ensures.swept),
         rw w.floors-is (floors-one l.invariant.3 (few p.0 h) (rw stays at w.at_centre-met.ensures.floored)),
       )
-    | else-floors-c w ↦ (
+      | else-floors-c w ↦ (
         omega (arith, h),
         rw (w.mismatches-is, w.guesses-is) l.invariant.1,
         rw (w.gathered-is, w.search-is) (everywhere-passed p.0 l.c h l.invariant.3 w.if-floors-c.false l.invariant.2),

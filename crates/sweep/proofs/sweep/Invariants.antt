@@ -1,13 +1,8 @@
 -- `sweep::sweep` meets its contract: what is met at the types passed is swept, and each floor found anew is one.
-use mathlib.Core.Path.{◌≡◌, sym, ◌∙◌}
-use mathlib.Core.Logic.{⊎_elim}
-use Prim.Native.Nat.{◌-◌, ◌≤◌, ◌<◌}
-use native.Mathlib.Omega.{arith}
+use Prim.Native.Nat.{◌-◌, ◌≤◌}
 use Rattle.medians.specs.Swept.{Swept}
 use Rattle.sweep.specs.Candidate.{Candidate, Everywhere, TablesKept}
 use Rattle.sweep.specs.Floors.{Floors}
-use Rattle.sweep.proofs.Floors.{floors-one}
-use Rattle.sweep.proofs.Walk.{few, kept_then, kept-none, still_ready, everywhere-none, everywhere-more, everywhere-passed}
 use Rattle.sweep.proofs.sweep.Given as goal
 
 abbrev pub invariant-loop-c : goal.invariant-loop-c

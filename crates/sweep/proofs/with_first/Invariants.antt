@@ -1,17 +1,9 @@
 -- `sweep::with_first` meets its contract: what the triplets with the types passed give is swept. Each next type's triplet is met
 -- elsewhere, cannot matter, is settled, or is visited.
-use mathlib.Core.Path.{◌≡◌, sym, ◌∙◌}
-use mathlib.Core.Logic.{⊎_elim}
-use Prim.Native.Nat.{◌+◌, ◌*◌, ◌-◌}
-use native.Mathlib.Omega.{arith}
-use Rattle.triplets.specs.Triplet.{in_order}
-use Rattle.triplets.specs.declared.Triplet.{Triplet}
-use Rattle.triplets.proofs.Order.{mark-read}
+use Prim.Native.Nat.{◌+◌, ◌-◌}
 use Rattle.sweep.specs.Floors.{met, Passed}
-use Rattle.sweep.specs.Candidate.{IsTriplet, WithFirst, Sweepable}
-use Rattle.sweep.proofs.Seated.{met-triplet}
-use Rattle.sweep.proofs.Walk.{Walk, Here, walk_first, walk-next, walk-less, walk-done, follower_next, which-second, ready-inside, ready_on, passed-more, first-none, here-skipped, here_dear, here_visited}
-use borrow.Author.Tests.{not-false}
+use Rattle.sweep.specs.Candidate.{WithFirst}
+use Rattle.sweep.proofs.Walk.{Walk}
 use Rattle.sweep.proofs.with_first.Given as goal
 
 abbrev pub invariant-loop-b : goal.invariant-loop-b

@@ -1,11 +1,9 @@
 -- `triplets::follow_below` meets its contract: the line is filled from place i on.
 use mathlib.Core.Path.{◌≡◌, refl, ◌∙◌}
 use mathlib.Core.Logic.{inl, inr}
-use Prim.Native.Nat.{◌+◌, ◌*◌, ◌-◌, ◌≤◌}
+use Prim.Native.Nat.{◌-◌}
 use native.Mathlib.Omega.{arith}
-use lib.ListN.{set}
-use Rattle.triplets.specs.Followers.{FollowLine}
-use Rattle.triplets.proofs.Filling.{follower_self, one-filled, filled-since, filled_then, Filling, one-turn}
+use Rattle.triplets.proofs.Filling.{follower_self, one-filled, filled-since, filled_then, one-turn}
 use Rattle.triplets.proofs.Order.{marked_sym, mark-read}
 use Rattle.triplets.proofs.follow_below.Goals as goal
 use Rattle.triplets.proofs.follow_below.Goals.{then-area-marks-eq1, else-area-marks-eq1}
@@ -25,8 +23,8 @@ loop-i-preserved c =
       omega arith,
       one-turn c.requires.0 c.requires.1 (first.size ∙ c.requires.3) (omega arith) mark c.loop-i.invariant.1
           (elim c.if-area-marks-eq1.branch [
-            then-area-marks-eq1 w ↦ inl (w.if-area-marks-eq1.true, w.follower-is)
-          | else-area-marks-eq1 w ↦ inr (w.if-area-marks-eq1.false, w.follower-is)
+            | then-area-marks-eq1 w ↦ inl (w.if-area-marks-eq1.true, w.follower-is)
+            | else-area-marks-eq1 w ↦ inr (w.if-area-marks-eq1.false, w.follower-is)
           ]),
     )
 

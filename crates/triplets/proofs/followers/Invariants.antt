@@ -1,8 +1,6 @@
 -- `triplets::followers` meets its contract: the lines of the types passed are filled.
-use mathlib.Core.Path.{sym, ◌∙◌}
 use Prim.Native.Nat.{◌-◌}
-use native.Mathlib.Omega.{arith}
-use Rattle.triplets.proofs.Filling.{filled-since, filled_then, Lines, no_line, one_line, all_lines}
+use Rattle.triplets.proofs.Filling.{Lines}
 use Rattle.triplets.proofs.followers.Given as goal
 
 abbrev pub invariant-loop-c : goal.invariant-loop-c

@@ -1,13 +1,9 @@
 -- `types::find_row` meets its contract: no type passed has the row.
-use mathlib.Core.Path.{◌≡◌, sym, ◌∙◌}
-use mathlib.Core.Bool.{false}
-use Prim.Native.Nat.{ℕ, ◌-◌, ◌≤◌, ◌<◌}
+use mathlib.Core.Path.{sym, ◌∙◌}
 use native.Mathlib.Nat.{not-suc-le-zero}
 use native.Mathlib.Omega.{arith}
 use borrow.Author.Count.{below_more}
 use Rattle.graph.proofs.Below.{first-is}
-use Rattle.rules.specs.Types.{is_same_row}
-use Rattle.types.specs.State.{stored_at}
 use Rattle.types.proofs.find_row.Goals as goal
 
 pub loop-i-init : goal.loop-i-init

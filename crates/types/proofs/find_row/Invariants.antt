@@ -1,11 +1,7 @@
 -- `types::find_row` meets its contract: no type passed has the row.
-use mathlib.Core.Path.{◌≡◌, sym, ◌∙◌}
+use mathlib.Core.Path.{◌≡◌}
 use mathlib.Core.Bool.{false}
 use Prim.Native.Nat.{ℕ, ◌-◌, ◌≤◌, ◌<◌}
-use native.Mathlib.Nat.{not-suc-le-zero}
-use native.Mathlib.Omega.{arith}
-use borrow.Author.Count.{below_more}
-use Rattle.graph.proofs.Below.{first-is}
 use Rattle.rules.specs.Types.{is_same_row}
 use Rattle.types.specs.State.{stored_at}
 use Rattle.types.proofs.find_row.Given as goal

@@ -1,7 +1,6 @@
 -- `types::row_at` meets its contract: the row is a part of the state area, and lies within it.
 use mathlib.Core.Path.{◌∙◌}
 use native.Mathlib.Omega.{arith}
-use borrow.Author.Rules.{rules}
 use Rattle.types.proofs.State.{row_read}
 use Rattle.types.proofs.row_at.Goals as goal
 

@@ -1,6 +1,5 @@
 -- `checks::check` meets its contract: HEAD, ROWS and WIDTH are tried in their order.
 use mathlib.Core.Path.{sym, ◌∙◌}
-use native.Mathlib.Omega.{arith}
 use borrow.Author.Tests.{lt-ltb, le-ltb}
 use Rattle.rules.specs.Job.{checked}
 use Rattle.rules.proofs.Job.{within}

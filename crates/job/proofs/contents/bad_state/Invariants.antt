@@ -1,14 +1,9 @@
 -- `contents::bad_state` meets its contract: the place counts the states that were passed, and none of them is outside its bounds.
-use mathlib.Core.Path.{◌≡◌, sym, ◌∙◌}
+use mathlib.Core.Path.{◌≡◌}
 use mathlib.Core.Bool.{false}
 use Prim.Native.Nat.{ℕ, ◌+◌, ◌*◌, ◌-◌, ◌≤◌, ◌<◌}
-use native.Mathlib.Nat.{le_antisymm, mul-le-mul_right}
-use native.Mathlib.Omega.{arith}
 use lib.ListN.{get_or}
-use mir.Facts.{Fits-8_64}
-use borrow.Author.Count.{below_none, below_more}
-use Rattle.graph.proofs.Below.{first-is}
-use Rattle.rules.specs.Job.{Bytes, outside, bad_state}
+use Rattle.rules.specs.Job.{Bytes, outside}
 use Rattle.job.proofs.contents.bad_state.Given as goal
 
 -- No state before the place is outside its bounds.

@@ -1,11 +1,9 @@
 -- `contents::bad_weight` meets its contract: no weight before the column is outside its bounds.
-use mathlib.Core.Path.{◌≡◌, sym}
-use mathlib.Core.Bool.{false}
-use Prim.Native.Nat.{ℕ, ◌-◌, ◌≤◌, ◌<◌}
+use mathlib.Core.Path.{sym}
 use native.Mathlib.Omega.{arith}
 use borrow.Author.Count.{below_none, below_more}
 use Rattle.graph.proofs.Below.{first-is}
-use Rattle.rules.specs.Job.{weight_at, outside, bad_weight}
+use Rattle.rules.specs.Job.{bad_weight}
 use Rattle.job.proofs.contents.Stages.{told}
 use Rattle.job.proofs.contents.bad_weight.Goals as goal
 

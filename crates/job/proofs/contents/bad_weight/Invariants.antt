@@ -1,12 +1,8 @@
 -- `contents::bad_weight` meets its contract: no weight before the column is outside its bounds.
-use mathlib.Core.Path.{◌≡◌, sym}
+use mathlib.Core.Path.{◌≡◌}
 use mathlib.Core.Bool.{false}
 use Prim.Native.Nat.{ℕ, ◌-◌, ◌≤◌, ◌<◌}
-use native.Mathlib.Omega.{arith}
-use borrow.Author.Count.{below_none, below_more}
-use Rattle.graph.proofs.Below.{first-is}
-use Rattle.rules.specs.Job.{weight_at, outside, bad_weight}
-use Rattle.job.proofs.contents.Stages.{told}
+use Rattle.rules.specs.Job.{weight_at, outside}
 use Rattle.job.proofs.contents.bad_weight.Given as goal
 
 abbrev pub invariant-loop-c : goal.invariant-loop-c

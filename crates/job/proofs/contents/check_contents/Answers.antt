@@ -1,5 +1,4 @@
 -- `contents::check_contents` meets its contract: it tries what is left behind LAYOUT.
-use native.Mathlib.Omega.{arith}
 use borrow.Author.Tests.{lt-ltb, le-ltb}
 use Rattle.job.proofs.contents.Stages.{laid_out}
 use Rattle.job.proofs.contents.check_contents.Goals as goal

@@ -1,8 +1,6 @@
 -- `guesses::alike` meets its contract: after c bytes as many as differ are counted.
-use mathlib.Core.Logic.{⊎_elim}
-use Prim.Native.Nat.{◌-◌, ◌<◌}
-use native.Mathlib.Omega.{arith}
-use Rattle.medians.proofs.guesses.Compared.{Compared, none_compared, all_compared, agree, differ}
+use Prim.Native.Nat.{◌-◌}
+use Rattle.medians.proofs.guesses.Compared.{Compared}
 use Rattle.medians.proofs.guesses.alike.Given as goal
 
 abbrev pub invariant-loop-c : goal.invariant-loop-c

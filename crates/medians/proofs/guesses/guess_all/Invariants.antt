@@ -1,11 +1,7 @@
 -- `guesses::guess_all` meets its contract: after i rows, the guesses are those of the first i.
 use mathlib.Core.Path.{◌≡◌}
 use Prim.Native.Nat.{◌-◌, ◌≤◌}
-use native.Mathlib.Omega.{arith}
-use borrow.Author.Rules.{rules}
 use Rattle.medians.specs.Guesses.{guesses_of}
-use Rattle.medians.proofs.guesses.Place.{slot_few}
-use Rattle.medians.proofs.guesses.Guesses.{guesses_none, guesses_more}
 use Rattle.medians.proofs.guesses.guess_all.Given as goal
 
 abbrev pub invariant-loop-i : goal.invariant-loop-i

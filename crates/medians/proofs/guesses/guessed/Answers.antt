@@ -1,7 +1,6 @@
 -- `guesses::guessed` meets its contract: the guess is a row made, a row gathered, or neither.
 use mathlib.Core.Path.{◌∙◌}
 use native.Mathlib.Omega.{arith}
-use borrow.Author.Rules.{rules}
 use Rattle.medians.proofs.guesses.Place.{slot_few, guess_made, guess_found, guess_none}
 use Rattle.medians.proofs.guesses.guessed.Goals as goal
 

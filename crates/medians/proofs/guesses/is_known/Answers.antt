@@ -2,7 +2,6 @@
 use mathlib.Core.Path.{ap₂}
 use lib.ListN.{set}
 use native.Mathlib.Omega.{arith}
-use borrow.Author.Rules.{rules}
 use Rattle.medians.proofs.guesses.Place.{slot_few, first-few, search_made, search_found}
 use Rattle.medians.proofs.guesses.is_known.Goals as goal
 

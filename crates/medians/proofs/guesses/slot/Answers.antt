@@ -1,7 +1,6 @@
 -- `guesses::slot` meets its contract: after c bytes the sum is that of the first c.
-use Prim.Native.Nat.{◌-◌}
 use native.Mathlib.Omega.{arith}
-use Rattle.medians.proofs.guesses.Mixed.{Mixed, none_mixed, one_mixed, all_mixed, square_small, term_small}
+use Rattle.medians.proofs.guesses.Mixed.{none_mixed, one_mixed, all_mixed, square_small, term_small}
 use Rattle.medians.proofs.guesses.slot.Goals as goal
 
 pub loop-c-init : goal.loop-c-init

@@ -1,6 +1,5 @@
 -- `search::consider` meets its contract: by what the guess, the cost and the search among known rows say.
 use mathlib.Core.Path.{◌∙◌}
-use borrow.Author.Rules.{rules}
 use Rattle.medians.proofs.search.Considering.{considered_guess, considered_dear, considered_known, considered_taken}
 use Rattle.medians.proofs.search.consider.Goals as goal
 

@@ -1,6 +1,5 @@
 -- `search::take` meets its contract: by the search's aim and its room.
 use mathlib.Core.Path.{◌∙◌}
-use borrow.Author.Rules.{rules}
 use borrow.Author.Tests.{not-true, not-false}
 use Rattle.medians.proofs.search.Taking.{takes_lowered, takes_filled, takes_one}
 use Rattle.medians.proofs.search.take.Goals as goal

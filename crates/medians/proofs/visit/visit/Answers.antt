@@ -1,7 +1,6 @@
 -- `visit::visit` meets its contract: the first median vector is considered, and the others unless the first two are alike.
 use mathlib.Core.Path.{sym, ◌∙◌}
 use native.Mathlib.Omega.{arith}
-use borrow.Author.Rules.{rules}
 use Rattle.medians.proofs.search.Considering.{median-wide}
 use Rattle.medians.proofs.visit.Visiting.{still_inside, is-median, visited_alike, visited_all}
 use Rattle.medians.proofs.visit.visit.Goals as goal

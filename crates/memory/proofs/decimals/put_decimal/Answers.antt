@@ -4,7 +4,7 @@ use mathlib.Core.List.{append-nil}
 use Prim.Native.Nat.{◌+◌, ◌-◌}
 use native.Mathlib.Omega.{arith}
 use lib.ListN.{length-set}
-use Rattle.memory.proofs.decimals.Decimal.{Written, written-more, written_all, written-room}
+use Rattle.memory.proofs.decimals.Decimal.{written-more, written_all, written-room}
 use Rattle.memory.proofs.decimals.put_decimal.Goals as goal
 
 pub loop-left-init : goal.loop-left-init

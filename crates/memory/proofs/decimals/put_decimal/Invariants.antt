@@ -1,10 +1,5 @@
 -- `decimals::put_decimal` meets its contract: the digits behind the first place are written, and those of what is left stand before them.
-use mathlib.Core.Path.{◌≡◌, refl, sym}
-use mathlib.Core.List.{append-nil}
-use Prim.Native.Nat.{◌+◌, ◌-◌}
-use native.Mathlib.Omega.{arith}
-use lib.ListN.{length-set}
-use Rattle.memory.proofs.decimals.Decimal.{Written, written-more, written_all, written-room}
+use Rattle.memory.proofs.decimals.Decimal.{Written}
 use Rattle.memory.proofs.decimals.put_decimal.Given as goal
 
 abbrev pub invariant-loop-left : goal.invariant-loop-left

@@ -1,11 +1,10 @@
 -- `numerals::read_number` meets its contract. The invariant: the bytes passed are digits, and the value is what they write, of 16 bits
 -- so far. A value of more bits is refused at once, since further digits make it no smaller.
 use mathlib.Core.Path.{◌≡◌, ap, ◌∙◌}
-use Prim.Native.Nat.{ℕ, ◌+◌, ◌-◌, ◌≤◌, ◌<◌}
+use Prim.Native.Nat.{◌+◌}
 use native.Mathlib.Omega.{arith}
-use lib.ListN.{length, get_or}
+use lib.ListN.{length}
 use borrow.Author.Count.{below_none, below_more}
-use Rattle.rules.proofs.Job.{Within}
 use Rattle.memory.specs.Numeral.{value_of}
 use Rattle.memory.proofs.numerals.Digits.{value_none, value-more, value_grows, number_is, other-is}
 use Rattle.memory.proofs.numerals.read_number.Goals as goal

@@ -1,7 +1,5 @@
 -- `draw::draw` meets its contract: the run refuses, or its network is written up to its links.
 use mathlib.Core.Path.{sym, ◌∙◌}
-use Prim.Native.Nat.{◌+◌, ◌*◌, ◌≤◌}
-use borrow.Author.Rules.{rules}
 use native.Mathlib.Omega.{arith}
 use Rattle.rules.proofs.Job.{passed_is}
 use Rattle.network.proofs.draw.Writable.{ready}
@@ -28,13 +26,19 @@ write_front-front-requires c =
 
 pub overflow_mul-used : goal.overflow_mul-used
 overflow_mul-used c =
-    omega (arith, used-short c.requires.0 c.run-end.ensures (sym c.tell-told.ensures.number_is ∙ c.if-told-ne0.false)
-    c.header_of-header.ensures.width_is c.write_front-front.ensures)
+    omega (
+      arith,
+      used-short c.requires.0 c.run-end.ensures (sym c.tell-told.ensures.number_is ∙ c.if-told-ne0.false)
+          c.header_of-header.ensures.width_is c.write_front-front.ensures,
+    )
 
 pub overflow_add-used : goal.overflow_add-used
 overflow_add-used c =
-    omega (arith, used-short c.requires.0 c.run-end.ensures (sym c.tell-told.ensures.number_is ∙ c.if-told-ne0.false)
-    c.header_of-header.ensures.width_is c.write_front-front.ensures)
+    omega (
+      arith,
+      used-short c.requires.0 c.run-end.ensures (sym c.tell-told.ensures.number_is ∙ c.if-told-ne0.false)
+          c.header_of-header.ensures.width_is c.write_front-front.ensures,
+    )
 
 pub returns : goal.returns
 returns c =

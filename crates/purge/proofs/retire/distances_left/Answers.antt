@@ -1,9 +1,6 @@
 -- `retire::distances_left` meets its contract: the cells are passed line by line.
-use Prim.Native.Nat.{◌-◌}
 use native.Mathlib.Omega.{arith}
-use Rattle.distances.specs.Area.{CellsWritten}
-use Rattle.distances.proofs.Area.{Passed, by_line, all-passed}
-use Rattle.purge.specs.Left.{Among, squeezed}
+use Rattle.distances.proofs.Area.{all-passed}
 use Rattle.purge.proofs.retire.Squeezed.{line-squeezed}
 use Rattle.purge.proofs.retire.distances_left.Goals as goal
 

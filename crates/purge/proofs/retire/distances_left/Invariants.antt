@@ -1,10 +1,8 @@
 -- `retire::distances_left` meets its contract: the cells are passed line by line.
 use Prim.Native.Nat.{◌-◌}
-use native.Mathlib.Omega.{arith}
 use Rattle.distances.specs.Area.{CellsWritten}
-use Rattle.distances.proofs.Area.{Passed, by_line, all-passed}
+use Rattle.distances.proofs.Area.{Passed, by_line}
 use Rattle.purge.specs.Left.{Among, squeezed}
-use Rattle.purge.proofs.retire.Squeezed.{line-squeezed}
 use Rattle.purge.proofs.retire.distances_left.Given as goal
 
 abbrev pub invariant-loop-a : goal.invariant-loop-a

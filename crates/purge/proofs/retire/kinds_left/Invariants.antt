@@ -1,10 +1,6 @@
 -- `retire::kinds_left` meets its contract: so many kinds are stored.
-use mathlib.Core.Path.{◌≡◌}
 use Prim.Native.Nat.{◌-◌, ◌≤◌}
-use native.Mathlib.Omega.{arith}
-use borrow.Author.Rules.{rules}
 use Rattle.purge.specs.Left.{KindsLeft}
-use Rattle.purge.proofs.retire.Staying.{no_kind, one-kind-more}
 use Rattle.purge.proofs.retire.kinds_left.Given as goal
 
 abbrev pub invariant-loop-a : goal.invariant-loop-a

@@ -1,9 +1,6 @@
 -- `retire::rows_left` meets its contract: so many rows are parted.
-use mathlib.Core.Logic.{⊎_elim}
 use Prim.Native.Nat.{◌-◌}
-use native.Mathlib.Omega.{arith}
-use borrow.Author.Tests.{eqb-true, eqb-false}
-use Rattle.purge.proofs.retire.Parted.{Parting, none-parted, same_size, few-stay, one-stays, one-goes, all-parted}
+use Rattle.purge.proofs.retire.Parted.{Parting}
 use Rattle.purge.proofs.retire.rows_left.Given as goal
 
 abbrev pub invariant-loop-i : goal.invariant-loop-i

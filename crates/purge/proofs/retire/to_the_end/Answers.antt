@@ -1,9 +1,9 @@
 -- `retire::to_the_end` meets its contract: so many bytes have moved down, and the row goes behind them.
 use mathlib.Core.Path.{◌≡◌, refl, ap, ◌∙◌}
 use mathlib.Core.List.{◌++◌}
-use Prim.Native.Nat.{◌+◌, ◌*◌, ◌-◌, ◌≤◌}
+use Prim.Native.Nat.{◌+◌, ◌*◌, ◌-◌}
 use native.Mathlib.Omega.{arith}
-use lib.ListN.{length, length-set}
+use lib.ListN.{length-set}
 use Rattle.rules.specs.Job.{Bytes}
 use Rattle.memory.specs.Placed.{placed}
 use Rattle.purge.proofs.retire.Moved.{moved, moved_none, moved_more, row-behind}

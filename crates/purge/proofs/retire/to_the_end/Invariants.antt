@@ -1,13 +1,8 @@
 -- `retire::to_the_end` meets its contract: so many bytes have moved down, and the row goes behind them.
-use mathlib.Core.Path.{◌≡◌, refl, ap, ◌∙◌}
-use mathlib.Core.List.{◌++◌}
-use Prim.Native.Nat.{◌+◌, ◌*◌, ◌-◌, ◌≤◌}
-use native.Mathlib.Omega.{arith}
-use lib.ListN.{length, length-set}
-use Rattle.rules.specs.Job.{Bytes}
-use Rattle.memory.specs.Placed.{placed}
-use Rattle.purge.proofs.retire.Moved.{moved, moved_none, moved_more, row-behind}
-use Rattle.types.specs.State.{rows_from}
+use mathlib.Core.Path.{◌≡◌}
+use Prim.Native.Nat.{◌*◌, ◌-◌, ◌≤◌}
+use lib.ListN.{length}
+use Rattle.purge.proofs.retire.Moved.{moved}
 use Rattle.purge.proofs.retire.to_the_end.Given as goal
 
 abbrev pub invariant-loop-c : goal.invariant-loop-c

@@ -6,7 +6,6 @@ use Prim.Native.Nat.{ℕ}
 use native.Mathlib.Omega.{arith}
 use lib.Dec.{ltb, leb}
 use borrow.Author.Tests.{ltb-true, lt-ltb, leb-true, le-leb}
-use borrow.Author.Rules.{rules}
 use Rattle.graph.proofs.Below.{same_tests}
 use Rattle.rules.specs.Types.{inferred}
 use Rattle.rules.specs.declared.Origin.{Origin}

@@ -2,10 +2,8 @@
 use mathlib.Core.Path.{ap}
 use mathlib.Core.Bool.{not}
 use mathlib.Core.Path.{refl}
-use mathlib.Core.Logic.{⊎_elim}
-use Prim.Native.Nat.{◌-◌}
 use native.Mathlib.Omega.{arith}
-use Rattle.purge.proofs.stay.Staying.{Passed, passed_none, passed-goes, passed-stays, all-passed}
+use Rattle.purge.proofs.stay.Staying.{passed_none, passed-goes, passed-stays, all-passed}
 use Rattle.purge.proofs.stay.survivors.Goals as goal
 use Rattle.purge.proofs.stay.survivors.Goals.{then-not-obsolete, else-not-obsolete}
 
@@ -17,8 +15,8 @@ loop-i-preserved c =
     let l = c.loop-i in
     let h = c.loop-i-test.true in
     elim c.if-not-obsolete.branch [
-      then-not-obsolete w ↦ rw (w.kept-is, w.count-is) (passed-stays l.invariant h c.obsolete.ensures (ap not w.if-not-obsolete.true))
-    | else-not-obsolete w ↦ rw (w.kept-is, w.count-is) (passed-goes l.invariant h c.obsolete.ensures (ap not w.if-not-obsolete.false))
+      | then-not-obsolete w ↦ rw (w.kept-is, w.count-is) (passed-stays l.invariant h c.obsolete.ensures (ap not w.if-not-obsolete.true))
+      | else-not-obsolete w ↦ rw (w.kept-is, w.count-is) (passed-goes l.invariant h c.obsolete.ensures (ap not w.if-not-obsolete.false))
     ]
 
 pub returns : goal.returns

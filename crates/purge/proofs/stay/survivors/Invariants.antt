@@ -1,9 +1,6 @@
 -- `stay::survivors` meets its contract: after i types it holds the places of those that stay.
-use mathlib.Core.Path.{refl}
-use mathlib.Core.Logic.{⊎_elim}
 use Prim.Native.Nat.{◌-◌}
-use native.Mathlib.Omega.{arith}
-use Rattle.purge.proofs.stay.Staying.{Passed, passed_none, passed-goes, passed-stays, all-passed}
+use Rattle.purge.proofs.stay.Staying.{Passed}
 use Rattle.purge.proofs.stay.survivors.Given as goal
 
 abbrev pub invariant-loop-i : goal.invariant-loop-i

@@ -1,11 +1,8 @@
 -- `ordered::count_line` meets its contract: before type j it counted the links of the pairs before j.
 use mathlib.Core.Path.{◌≡◌, sym, ◌∙◌}
 use mathlib.Core.Bool.{true, false}
-use Prim.Native.Nat.{◌-◌, ◌≤◌, ◌<◌}
 use native.Mathlib.Omega.{arith}
-use lib.ListN.{length}
-use Rattle.graph.specs.Below.{gather}
-use Rattle.result.specs.Lines.{pair_of, line_of}
+use Rattle.result.specs.Lines.{line_of}
 use Rattle.result.proofs.ordered.Lines.{higher, lower, pair-more}
 use Rattle.result.proofs.ordered.count_line.Goals as goal
 use Rattle.result.proofs.ordered.count_line.Goals.{then-linked, else-linked}
@@ -21,8 +18,8 @@ loop-j-preserved c =
     let is = higher a.area.now a.i l.j in
     let more = pair-more a.area.now a.i l.j in
     elim c.if-linked.branch [
-      then-linked w ↦ omega (arith, w.n-is, more true (is true (omega arith) (test ∙ w.if-linked.true)))
-    | else-linked w ↦ omega (arith, w.n-is, more false (is false (omega arith) (test ∙ w.if-linked.false)))
+      | then-linked w ↦ omega (arith, w.n-is, more true (is true (omega arith) (test ∙ w.if-linked.true)))
+      | else-linked w ↦ omega (arith, w.n-is, more false (is false (omega arith) (test ∙ w.if-linked.false)))
     ]
 
 pub returns : goal.returns

@@ -1,13 +1,9 @@
 -- `ordered::count_line` meets its contract: before type j it counted the links of the pairs before j.
-use mathlib.Core.Path.{◌≡◌, sym, ◌∙◌}
-use mathlib.Core.Logic.{⊎_elim}
-use mathlib.Core.Bool.{true, false}
+use mathlib.Core.Path.{◌≡◌}
 use Prim.Native.Nat.{◌-◌, ◌≤◌, ◌<◌}
-use native.Mathlib.Omega.{arith}
 use lib.ListN.{length}
 use Rattle.graph.specs.Below.{gather}
-use Rattle.result.specs.Lines.{pair_of, line_of}
-use Rattle.result.proofs.ordered.Lines.{higher, lower, pair-more}
+use Rattle.result.specs.Lines.{pair_of}
 use Rattle.result.proofs.ordered.count_line.Given as goal
 
 abbrev pub invariant-loop-j : goal.invariant-loop-j

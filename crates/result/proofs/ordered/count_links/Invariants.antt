@@ -1,11 +1,9 @@
 -- `ordered::count_links` meets its contract: before type i it counted the lines of the types before i.
-use mathlib.Core.Path.{◌≡◌, refl, ◌∙◌}
+use mathlib.Core.Path.{◌≡◌}
 use Prim.Native.Nat.{◌*◌, ◌-◌, ◌≤◌}
-use native.Mathlib.Omega.{arith}
 use lib.ListN.{length}
 use Rattle.graph.specs.Below.{gather}
 use Rattle.result.specs.Lines.{line_of}
-use Rattle.result.proofs.ordered.Lines.{line-short, links-more, links-all}
 use Rattle.result.proofs.ordered.count_links.Given as goal
 
 abbrev pub invariant-loop-i : goal.invariant-loop-i

@@ -1,10 +1,7 @@
 -- `ordered::next_in_line` meets its contract: no link stands between the first pair and the pair of type j.
-use mathlib.Core.Path.{◌≡◌, refl, sym, ◌∙◌}
-use mathlib.Core.Bool.{true, false}
+use mathlib.Core.Path.{◌≡◌}
 use Prim.Native.Nat.{◌-◌, ◌≤◌, ◌<◌}
-use native.Mathlib.Omega.{arith}
 use Rattle.result.specs.Lines.{links_before}
-use Rattle.result.proofs.ordered.Lines.{higher, before_more}
 use Rattle.result.proofs.ordered.next_in_line.Given as goal
 
 abbrev pub invariant-loop-j : goal.invariant-loop-j

@@ -1,10 +1,9 @@
 -- `ordered::next_link` meets its contract: as many links stand before the pair i, j as before the pair that follows the last link, so i, j is the next.
 use mathlib.Core.Path.{◌≡◌, refl, sym, ◌∙◌}
-use Prim.Native.Nat.{◌+◌, ◌-◌, ◌<◌}
+use Prim.Native.Nat.{◌<◌}
 use native.Mathlib.Omega.{arith}
-use borrow.Author.Rules.{rules}
-use Rattle.result.specs.Lines.{links_before, Reached}
-use Rattle.result.proofs.ordered.Lines.{Behind, behind, line-end, line-follows, link-at}
+use Rattle.result.specs.Lines.{links_before}
+use Rattle.result.proofs.ordered.Lines.{behind, line-end, line-follows, link-at}
 use Rattle.result.proofs.ordered.next_link.Goals as goal
 
 pub overflow_add-last : goal.overflow_add-last

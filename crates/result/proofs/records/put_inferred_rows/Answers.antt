@@ -1,10 +1,7 @@
 -- `records::put_inferred_rows` meets its contract: at type k the rows of the types from s to k stand there.
 use mathlib.Core.Path.{◌≡◌, refl, ◌∙◌}
-use Prim.Native.Nat.{◌-◌, ◌≤◌}
 use native.Mathlib.Omega.{arith}
-use lib.ListN.{length, length-take}
-use Rattle.memory.specs.Placed.{placed}
-use Rattle.result.specs.Records.{inferred_rows}
+use lib.ListN.{length-take}
 use Rattle.result.proofs.records.RecordBytes.{row_room, rows_none, rows_more}
 use Rattle.result.proofs.records.put_inferred_rows.Goals as goal
 

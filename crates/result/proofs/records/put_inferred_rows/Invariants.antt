@@ -1,11 +1,9 @@
 -- `records::put_inferred_rows` meets its contract: at type k the rows of the types from s to k stand there.
-use mathlib.Core.Path.{◌≡◌, refl, ◌∙◌}
+use mathlib.Core.Path.{◌≡◌}
 use Prim.Native.Nat.{◌-◌, ◌≤◌}
-use native.Mathlib.Omega.{arith}
-use lib.ListN.{length, length-take}
+use lib.ListN.{length}
 use Rattle.memory.specs.Placed.{placed}
 use Rattle.result.specs.Records.{inferred_rows}
-use Rattle.result.proofs.records.RecordBytes.{row_room, rows_none, rows_more}
 use Rattle.result.proofs.records.put_inferred_rows.Given as goal
 
 abbrev pub invariant-loop-k : goal.invariant-loop-k

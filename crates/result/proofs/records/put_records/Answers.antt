@@ -2,9 +2,6 @@
 use mathlib.Core.Path.{◌≡◌, refl, ◌∙◌}
 use Prim.Native.Nat.{◌-◌, ◌≤◌}
 use native.Mathlib.Omega.{arith}
-use lib.ListN.{length}
-use Rattle.memory.specs.Placed.{placed}
-use Rattle.result.specs.Records.{records_of}
 use Rattle.result.proofs.records.RecordBytes.{records-none, records-more}
 use Rattle.result.proofs.records.put_records.Goals as goal
 use Rattle.result.proofs.records.put_records.Goals.{then-k-s, else-k-s}

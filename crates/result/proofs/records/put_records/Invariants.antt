@@ -1,12 +1,9 @@
 -- `records::put_records` meets its contract: after k types the records of the first k stand there.
-use mathlib.Core.Path.{◌≡◌, refl, ◌∙◌}
-use mathlib.Core.Logic.{⊎_elim}
+use mathlib.Core.Path.{◌≡◌}
 use Prim.Native.Nat.{◌-◌, ◌≤◌}
-use native.Mathlib.Omega.{arith}
 use lib.ListN.{length}
 use Rattle.memory.specs.Placed.{placed}
 use Rattle.result.specs.Records.{records_of}
-use Rattle.result.proofs.records.RecordBytes.{records-none, records-more}
 use Rattle.result.proofs.records.put_records.Given as goal
 
 abbrev pub invariant-loop-k : goal.invariant-loop-k

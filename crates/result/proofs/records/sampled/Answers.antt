@@ -1,14 +1,13 @@
 -- `records::sampled` meets its contract: after k types it counted the sampled ones of the first k.
 use mathlib.Core.Path.{◌≡◌, refl, ap, ◌∙◌}
 use mathlib.Core.Bool.{cond, not}
-use Prim.Native.Nat.{ℕ, ◌-◌, ◌≤◌}
+use Prim.Native.Nat.{ℕ}
 use native.Mathlib.Omega.{arith}
-use borrow.Author.Rules.{rules}
 use Rattle.graph.specs.Below.{sum}
 use Rattle.graph.proofs.Below.{sum_more}
 use Rattle.rules.specs.Types.{inferred}
 use Rattle.rules.specs.declared.Origin.{Origin}
-use Rattle.result.specs.Records.{kind_at, sampled_of}
+use Rattle.result.specs.Records.{kind_at}
 use Rattle.result.proofs.records.sampled.Goals as goal
 use Rattle.result.proofs.records.sampled.Goals.{in-Sampled, in_default}
 
@@ -22,8 +21,8 @@ loop-k-preserved c =
     let one : Origin → ℕ = λ o. cond (not (inferred o)) 1 0 in
     let more = sum_more l.k (λ i. one (kind_at c.args.kinds i).origin) in
     elim c.match-origin.branch [
-      in-Sampled w ↦ (omega arith, omega (arith, w.sampled-is), w.sampled-is ∙ omega (arith, l.invariant.2, more, ap one w.in-Sampled.is))
-    | in_default w ↦ (omega arith, omega (arith, w.sampled-is), w.sampled-is ∙ omega (arith, l.invariant.2, more, ap one w.in_default.is))
+      | in-Sampled w ↦ (omega arith, omega (arith, w.sampled-is), w.sampled-is ∙ omega (arith, l.invariant.2, more, ap one w.in-Sampled.is))
+      | in_default w ↦ (omega arith, omega (arith, w.sampled-is), w.sampled-is ∙ omega (arith, l.invariant.2, more, ap one w.in_default.is))
     ]
 
 pub returns : goal.returns

@@ -1,11 +1,9 @@
 -- `table::clear_links` meets its contract: each turn stores one more record of zeros.
-use mathlib.Core.Path.{◌≡◌, sym, ap, ◌∙◌}
-use mathlib.Core.List.{List}
-use Prim.Native.Nat.{suc, ◌+◌, ◌≤◌, ◌<◌}
+use mathlib.Core.Path.{◌≡◌, ◌∙◌}
+use Prim.Native.Nat.{◌≤◌, ◌<◌}
 use native.Mathlib.Omega.{arith}
-use lib.ListN.{length, replicate, set, length-replicate, get_or-replicate}
+use lib.ListN.{length, replicate, length-replicate, get_or-replicate}
 use Rattle.memory.proofs.Placed.{placed-whole}
-use Rattle.rules.specs.declared.Link.{Link}
 use Rattle.result.specs.Order.{no_link}
 use Rattle.result.proofs.table.Listed.{filled_none, filled_next, filled-all}
 use Rattle.result.proofs.table.clear_links.Goals as goal

@@ -1,14 +1,11 @@
 -- `table::list_links` meets its contract: each turn asks `next_link` for the link behind the last one, and stores it.
 use mathlib.Core.Path.{◌≡◌, refl, sym, ◌∙◌}
-use mathlib.Core.List.{List, ◌∷◌}
-use Prim.Native.Nat.{ℕ, suc, ◌+◌, ◌≤◌, ◌<◌}
+use Prim.Native.Nat.{◌<◌}
 use native.Mathlib.Omega.{arith}
 use lib.ListN.{length}
 use Rattle.std.proofs.Common.{add-one}
 use Rattle.rules.specs.Links.{link_at}
-use Rattle.rules.specs.declared.Link.{Link}
 use Rattle.purge.specs.Network.{links_in}
-use Rattle.result.specs.Order.{no_link}
 use Rattle.result.proofs.table.Listed.{filled_none, filled_next, filled-all}
 use Rattle.result.proofs.table.list_links.Goals as goal
 

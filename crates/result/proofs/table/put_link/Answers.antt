@@ -1,5 +1,4 @@
 -- `table::put_link` meets its contract: the three numbers of a link, at its place. It is written out, so that a wrong link is refused here.
-use borrow.Author.Rules.{rules}
 use Rattle.result.proofs.table.put_link.Goals as goal
 
 pub returns : goal.returns

@@ -1,13 +1,12 @@
 -- `table::put_links` meets its contract: each turn writes the bytes of one more link.
 use mathlib.Core.Path.{◌≡◌, ap, ◌∙◌}
-use Prim.Native.Nat.{ℕ, suc, ◌+◌, ◌*◌, ◌≤◌}
+use Prim.Native.Nat.{◌+◌, ◌*◌}
 use native.Mathlib.Omega.{arith}
-use lib.ListN.{length}
 use Rattle.std.proofs.Common.{add-one}
 use Rattle.rules.specs.Links.{link_at}
 use Rattle.memory.specs.Placed.{placed}
 use Rattle.result.specs.Table.{link_bytes}
-use Rattle.result.proofs.table.Bytes.{after, after_none, after_more}
+use Rattle.result.proofs.table.Bytes.{after_none, after_more}
 use Rattle.result.proofs.table.put_links.Goals as goal
 
 pub loop-k-init : goal.loop-k-init

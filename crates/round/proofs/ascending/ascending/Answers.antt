@@ -1,12 +1,6 @@
 -- `ascending::ascending` meets its contract: the first k rows are sorted.
 use mathlib.Core.Path.{◌≡◌, ◌∙◌}
-use Prim.Native.Nat.{ℕ, ◌-◌, ◌≤◌}
 use native.Mathlib.Omega.{arith}
-use lib.ListN.{length}
-use Rattle.rules.specs.Job.{Bytes}
-use Rattle.memory.specs.Placed.{placed}
-use Rattle.types.specs.State.{stored_at, laid}
-use Rattle.round.specs.Sorted.{sorted}
 use Rattle.round.proofs.ascending.Inserted.{sorted_none, sorted_more}
 use Rattle.round.proofs.ascending.ascending.Goals as goal
 

@@ -1,13 +1,7 @@
 -- `ascending::before` meets its contract: every byte passed was equal.
-use mathlib.Core.Path.{◌≡◌, sym, ap, ◌∙◌}
+use mathlib.Core.Path.{◌≡◌}
 use Prim.Native.Nat.{ℕ, ◌+◌, ◌*◌, ◌-◌, ◌≤◌, ◌<◌}
-use native.Mathlib.Omega.{arith}
-use lib.Dec.{ltb}
 use lib.ListN.{get_or}
-use borrow.Author.Count.{below_none, below_more}
-use Rattle.types.specs.State.{stored_at}
-use Rattle.types.proofs.State.{length-stored_at, stored_at-state, stored_at-is}
-use Rattle.round.proofs.ascending.Compared.{before_same, differ-at}
 use Rattle.round.proofs.ascending.before.Given as goal
 
 abbrev pub invariant-loop-c : goal.invariant-loop-c

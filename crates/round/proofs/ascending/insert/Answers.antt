@@ -1,6 +1,5 @@
 -- `ascending::insert` meets its contract: the place is within the rows, those from there on move up, and the row is put there.
 use native.Mathlib.Omega.{arith}
-use borrow.Author.Rules.{rules}
 use Rattle.round.proofs.ascending.Inserted.{within, moved_with_row}
 use Rattle.round.proofs.ascending.insert.Goals as goal
 

@@ -1,10 +1,8 @@
 -- `ascending::move_up` meets its contract: the rows from number i on stand one higher.
 use mathlib.Core.Path.{◌≡◌}
-use Prim.Native.Nat.{◌+◌, ◌*◌, ◌-◌, ◌≤◌}
-use native.Mathlib.Omega.{arith}
+use Prim.Native.Nat.{◌+◌, ◌*◌, ◌≤◌}
 use lib.ListN.{length}
 use Rattle.memory.specs.Placed.{placed}
-use Rattle.round.proofs.ascending.Inserted.{moved_none, moved_more}
 use Rattle.types.specs.State.{rows_from}
 use Rattle.round.proofs.ascending.move_up.Given as goal
 

@@ -1,13 +1,9 @@
 -- `ascending::place_of_row` meets its contract: all rows passed stand before the row.
-use mathlib.Core.Path.{◌≡◌, sym, ap, ◌∙◌}
-use mathlib.Core.Bool.{true, not}
-use Prim.Native.Nat.{ℕ, ◌-◌, ◌≤◌, ◌<◌}
+use mathlib.Core.Path.{sym, ap, ◌∙◌}
+use mathlib.Core.Bool.{not}
 use native.Mathlib.Omega.{arith}
 use borrow.Author.Count.{below_none, below_more}
-use borrow.Author.Tests.{not-false}
 use Rattle.graph.proofs.Below.{first-is}
-use Rattle.types.specs.State.{stored_at}
-use Rattle.round.specs.Sorted.{before}
 use Rattle.round.proofs.ascending.place_of_row.Goals as goal
 
 pub loop-i-init : goal.loop-i-init

@@ -1,6 +1,5 @@
 -- `candidates::choose` meets its contract: the first sweep comes to lambda and gathers nothing, and the second one starts from there.
 use mathlib.Core.Path.{◌≡◌, refl, sym, ap, ◌∙◌}
-use Prim.Native.Nat.{ℕ}
 use native.Mathlib.Omega.{arith}
 use borrow.Author.Rules.{rules}
 use lib.ListN.{length-replicate}

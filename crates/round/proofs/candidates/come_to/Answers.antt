@@ -1,6 +1,5 @@
 -- `candidates::come_to` meets its contract: by whether there was room.
 use mathlib.Core.Path.{refl}
-use borrow.Author.Rules.{rules}
 use Rattle.round.proofs.candidates.come_to.Goals as goal
 
 pub returns : goal.returns

@@ -1,13 +1,7 @@
 -- `candidates::gather_window` meets its contract: there is no candidate; or all within the window are gathered, or too many.
 use mathlib.Core.Path.{◌∙◌}
-use mathlib.Core.Logic.{◌≢◌}
-use Prim.Native.Nat.{◌+◌}
 use native.Mathlib.Omega.{arith}
-use borrow.Author.Rules.{rules}
-use lib.ListN.{replicate, length-replicate}
-use Rattle.medians.specs.Search.{for_all}
-use Rattle.medians.specs.Swept.{Swept}
-use Rattle.sweep.specs.Candidate.{Candidate, Everywhere}
+use lib.ListN.{length-replicate}
 use Rattle.round.proofs.candidates.Chosen.{fresh-none, fresh_added}
 use Rattle.round.proofs.candidates.gather_window.Goals as goal
 

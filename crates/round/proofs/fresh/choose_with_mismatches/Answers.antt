@@ -1,5 +1,4 @@
 -- `fresh::choose_with_mismatches` meets its contract: there is memory for all mismatches, none of which is known yet.
-use borrow.Author.Rules.{rules}
 use Rattle.triplets.proofs.mismatches.Cached.{none-cached}
 use Rattle.round.proofs.fresh.choose_with_mismatches.Goals as goal
 

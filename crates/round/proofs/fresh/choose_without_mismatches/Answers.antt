@@ -1,6 +1,5 @@
 -- `fresh::choose_without_mismatches` meets its contract: every width is right where there is no memory for mismatches.
 use native.Mathlib.Omega.{arith}
-use borrow.Author.Rules.{rules}
 use Rattle.triplets.proofs.mismatches.Cached.{none-cached}
 use Rattle.round.proofs.fresh.choose_without_mismatches.Goals as goal
 

@@ -1,5 +1,5 @@
 -- `fresh::many_links` meets its contract: the sum stays small.
-use Prim.Native.Nat.{◌+◌, ◌*◌, ◌-◌, ◌≤◌}
+use Prim.Native.Nat.{◌≤◌}
 use native.Mathlib.Omega.{arith}
 use Rattle.graph.proofs.Below.{count_le}
 use Rattle.links.specs.Marks.{marked}

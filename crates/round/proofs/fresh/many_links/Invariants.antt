@@ -1,8 +1,5 @@
 -- `fresh::many_links` meets its contract: the sum stays small.
 use Prim.Native.Nat.{◌+◌, ◌*◌, ◌-◌, ◌≤◌}
-use native.Mathlib.Omega.{arith}
-use Rattle.graph.proofs.Below.{count_le}
-use Rattle.links.specs.Marks.{marked}
 use Rattle.round.proofs.fresh.many_links.Given as goal
 
 abbrev pub invariant-loop-i : goal.invariant-loop-i

@@ -1,13 +1,8 @@
 -- `start::begin` meets its contract: the rows collapse into cleared memory, to too many types, or to few, whose distances are measured.
-use mathlib.Core.Path.{◌≡◌, ap, ◌∙◌}
-use mathlib.Core.Bool.{false}
+use mathlib.Core.Path.{ap, ◌∙◌}
 use native.Mathlib.Omega.{arith}
-use lib.ListN.{length, replicate, length-replicate}
-use borrow.Author.Rules.{rules}
-use Rattle.rules.specs.Job.{Bytes, job_rows}
-use Rattle.rules.specs.Types.{has_too_many}
+use lib.ListN.{replicate, length-replicate}
 use Rattle.rules.proofs.Job.{passed_is}
-use Rattle.types.specs.Collapse.{Collapsed}
 use Rattle.run.proofs.start.Beginning.{job-weighed, sample_few, states-lent, begun_first, begun-none, many-told, few-told}
 use Rattle.run.proofs.start.begin.Goals as goal
 

@@ -1,6 +1,5 @@
 -- `start::refused` meets its contract: nothing is left.
 use mathlib.Core.Path.{refl}
-use borrow.Author.Rules.{rules}
 use Rattle.run.proofs.start.refused.Goals as goal
 
 pub returns : goal.returns

@@ -1,7 +1,6 @@
 -- `hints::hint` meets its contract: the places are inside, and stores keep the length.
 use native.Mathlib.Omega.{arith}
 use lib.ListN.{length-set}
-use borrow.Author.Rules.{rules}
 use Rattle.triplets.proofs.hints.hint.Goals as goal
 
 pub bounds-hints-i-2 : goal.bounds-hints-i-2

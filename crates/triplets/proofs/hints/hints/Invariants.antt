@@ -1,7 +1,6 @@
 -- `hints::hints` meets its contract: each row keeps the length.
 use mathlib.Core.Path.{◌≡◌}
 use Prim.Native.Nat.{◌-◌, ◌≤◌}
-use native.Mathlib.Omega.{arith}
 use lib.ListN.{length}
 use Rattle.triplets.proofs.hints.hints.Given as goal
 

@@ -1,6 +1,5 @@
 -- `hints::planes_of` meets its contract: it reads inside the row.
 use Prim.Native.Nat.{◌≤◌}
-use native.Mathlib.Omega.{arith}
 use Rattle.triplets.proofs.hints.planes_of.Given as goal
 
 abbrev pub invariant-loop-k : goal.invariant-loop-k

@@ -1,8 +1,8 @@
 -- `mismatches::find_mismatches` meets its contract: from character c on the bits are those asked for.
 use mathlib.Core.Path.{refl}
 use native.Mathlib.Omega.{arith}
-use Rattle.memory.proofs.Digits.{Spelt, none_spelt, one_spelt, all_spelt}
-use Rattle.triplets.specs.Mismatches.{bit, differ}
+use Rattle.memory.proofs.Digits.{none_spelt, one_spelt, all_spelt}
+use Rattle.triplets.specs.Mismatches.{differ}
 use Rattle.triplets.proofs.mismatches.Mismatches.{one-bit-fits}
 use Rattle.triplets.proofs.mismatches.find_mismatches.Goals as goal
 

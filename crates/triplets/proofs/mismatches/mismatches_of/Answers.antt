@@ -2,7 +2,6 @@
 use native.Mathlib.Omega.{arith}
 use mathlib.Core.Path.{refl}
 use lib.ListN.{length-set}
-use borrow.Author.Rules.{rules}
 use Rattle.triplets.proofs.mismatches.Cached.{kept-right, room-both}
 use Rattle.triplets.proofs.mismatches.mismatches_of.Goals as goal
 

@@ -1,7 +1,5 @@
 -- `mismatches::width_in_use` meets its contract: from character m on no row made holds a state.
-use native.Mathlib.Omega.{arith}
 use Rattle.triplets.specs.Mismatches.{Narrow}
-use Rattle.triplets.proofs.mismatches.Narrow.{narrow-all, narrow-less}
 use Rattle.triplets.proofs.mismatches.width_in_use.Given as goal
 
 abbrev pub invariant-loop-m : goal.invariant-loop-m

@@ -1,5 +1,4 @@
 -- `settled::alone` meets its contract: some bits of a number are no more than the number.
-use borrow.Author.Rules.{rules}
 use lib.Bits.{and_le_l}
 use Rattle.triplets.proofs.settled.alone.Goals as goal
 

@@ -1,7 +1,6 @@
 -- `settled::is_made` meets its contract: the mismatches of the row guessed tell whether it is the row asked for.
 use mathlib.Core.Path.{refl, sym, ◌∙◌}
 use mathlib.Core.Bool.{false≢true}
-use borrow.Author.Rules.{rules}
 use borrow.Author.Tests.{eqb-true}
 use Rattle.triplets.proofs.settled.Mixing.{mixed_none}
 use Rattle.triplets.proofs.settled.is_made.Goals as goal

@@ -1,7 +1,6 @@
 -- `settled::settled` meets its contract: one row settles the triplet, or three do.
 use mathlib.Core.Path.{refl, ◌∙◌}
 use mathlib.Core.Bool.{false≢true}
-use borrow.Author.Rules.{rules}
 use Rattle.triplets.proofs.settled.Mixing.{settled-one}
 use Rattle.triplets.proofs.settled.settled.Goals as goal
 

@@ -1,8 +1,5 @@
 -- `settled::three_made` meets its contract: each of the three rows is a median vector.
 use mathlib.Core.Path.{◌∙◌}
-use mathlib.Core.Bool.{false≢true}
-use borrow.Author.Rules.{rules}
-use borrow.Author.Tests.{not-false}
 use Rattle.triplets.proofs.settled.Mixing.{settled-three}
 use Rattle.triplets.proofs.settled.three_made.Goals as goal
 

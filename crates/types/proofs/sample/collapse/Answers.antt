@@ -1,16 +1,14 @@
 -- `sample::collapse` meets its contract: after k rows memory holds their types.
 use mathlib.Core.Path.{◌≡◌, ap, ◌∙◌}
-use mathlib.Core.Logic.{⊎_elim}
-use Prim.Native.Nat.{◌*◌, ◌-◌, ◌<◌}
+use Prim.Native.Nat.{◌*◌, ◌<◌}
 use native.Mathlib.Omega.{arith}
 use lib.ListN.{length, set}
-use borrow.Author.Rules.{rules}
 use Rattle.graph.specs.Below.{first}
 use Rattle.rules.specs.Job.{Bytes, rows, job_row}
 use Rattle.rules.specs.Types.{is_same_row}
 use Rattle.memory.specs.Placed.{placed}
 use Rattle.types.specs.State.{stored, stored_at}
-use Rattle.types.proofs.sample.Entering.{Holds, holds_as, none_read, row-size, same_size, countable, all_read, one-row-more, one-type-more, refused}
+use Rattle.types.proofs.sample.Entering.{holds_as, none_read, row-size, same_size, countable, all_read, one-row-more, one-type-more, refused}
 use Rattle.types.proofs.sample.collapse.Goals as goal
 use Rattle.types.proofs.sample.collapse.Goals.{then-i-types, else-i-types+else-types-eq-MOST_TYPES}
 
@@ -50,15 +48,15 @@ loop-k-preserved c =
     let l = c.loop-k in
     let h : l.k < rows c.args.job.now = omega (arith, c.loop-k-test.true, c.requires.1) in
     let found : c.find_row-i.result ≡ first l.types (λ j. is_same_row (stored_at l.states j) (stored (job_row c.args.job.now l.k))) =
-        c.find_row-i.ensures ∙ ap (λ (r : Bytes). first l.types (λ j. is_same_row (stored_at l.states j) r)) c.row-row.ensures in
+    c.find_row-i.ensures ∙ ap (λ (r : Bytes). first l.types (λ j. is_same_row (stored_at l.states j) r)) c.row-row.ensures in
     elim c.if-i-types.branch [
-      then-i-types w ↦
-        holds_as (one-row-more l.invariant h found w.if-i-types.true)
-        w.states-is (w.kinds-is ∙ ap (set l.kinds c.find_row-i.result) w.one_more.ensures) w.types-is
-    | else-i-types+else-types-eq-MOST_TYPES w ↦
-        holds_as (one-type-more l.invariant h found w.if-i-types.false (omega arith))
-        (w.states-is ∙ w.copy.ensures ∙ ap (placed l.states (64 * l.types)) c.row-row.ensures)
-        (w.kinds-is ∙ ap (set l.kinds l.types) c.single-alone.ensures) w.types-is
+      | then-i-types w ↦
+          holds_as (one-row-more l.invariant h found w.if-i-types.true)
+          w.states-is (w.kinds-is ∙ ap (set l.kinds c.find_row-i.result) w.one_more.ensures) w.types-is
+      | else-i-types+else-types-eq-MOST_TYPES w ↦
+          holds_as (one-type-more l.invariant h found w.if-i-types.false (omega arith))
+          (w.states-is ∙ w.copy.ensures ∙ ap (placed l.states (64 * l.types)) c.row-row.ensures)
+          (w.kinds-is ∙ ap (set l.kinds l.types) c.single-alone.ensures) w.types-is
     ]
 
 pub shape_of-states : goal.shape_of-states
