@@ -1,5 +1,4 @@
 -- `hurdlesong_text` meets its contract: the text of a network or the line of a refusal, and what is told of it.
-use borrow.Author.Rules.{rules}
 use Rattle.hurdlesong_c.proofs.Interface.{network-told, line-told}
 use Rattle.hurdlesong_c.proofs.hurdlesong_text.Goals as goal
 

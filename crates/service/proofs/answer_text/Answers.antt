@@ -1,5 +1,4 @@
 -- `service::answer_text` meets its contract: its result has the least length.
-use borrow.Author.Rules.{rules}
 use Prim.Native.Nat.{ℕ}
 use lib.ListN.{length-replicate}
 use Rattle.service.proofs.Text.{least-text}

@@ -2,8 +2,7 @@
 use mathlib.Core.Path.{sym, ap, ◌∙◌}
 use native.Mathlib.Omega.{arith}
 use lib.Seq.{length-take-le}
-use borrow.Author.Rules.{rules}
-use Rattle.fasta.proofs.Ready.{Ready, ready, not-ready}
+use Rattle.fasta.proofs.Ready.{ready, not-ready}
 use Rattle.fasta.specs.Answers.{conversion_number, conversion_place}
 use Rattle.service.proofs.from_fasta.Left.{job-left, refusal-left}
 use Rattle.service.proofs.from_fasta.answer_fasta.Goals as goal
