@@ -10,6 +10,13 @@ ghost use Rattle.hurdlesong_fasta.specs.Fits.{Fits};
 use memory::copy;
 use memory::numerals::{Numeral, read_number};
 use service::from_fasta::answer_fasta;
+use std::io::Read;
+use std::rt::{Env, Files};
+use streams::arguments::{argument, argument_count};
+use streams::files::open;
+use streams::printing::write_all;
+use streams::reading::read_full;
+use streams::{Console, buffer};
 use text::TEXT_ROOM;
 
 // What came of reading a text: all of it, so many bytes; as much as there is room for; or a read that failed.
@@ -21,14 +28,17 @@ enum Input {
 }
 
 // A line on standard error.
-fn complain(line: &[u8]) {
-    io::write_all(libc::STDERR_FILENO, line);
+fn complain(console: &mut Console, line: &[u8]) {
+    write_all(&mut console.errors, line);
 }
 
 // The text of an answer, by one write.
-fn print(answer: &[u8]) {
-    if !io::write_all(libc::STDOUT_FILENO, answer) {
-        complain(b"hurdlesong_fasta: the answer could not be written\n");
+fn print(console: &mut Console, answer: &[u8]) {
+    if !write_all(&mut console.output, answer) {
+        complain(
+            console,
+            b"hurdlesong_fasta: the answer could not be written\n",
+        );
     }
 }
 
@@ -41,100 +51,107 @@ fn mebibyte() -> [u8; 1048577]
 }
 
 // Reads a text to its end, behind what was read of it; a text that leaves no byte free may go on. A read that fails is not taken for the
-// end, since what came before it is a part of a text and not the text. Each turn but the last adds a byte or more, so the room that is left
-// falls.
-fn read_text(fd: i32, text: &mut [u8], from: usize) -> Input
+// end, since what came before it is a part of a text and not the text.
+fn read_text<R: Read>(input: &mut R, text: &mut [u8], from: usize) -> Input
     requires { from ≤ length text.old }
     ensures { Fits result text.new }
 {
-    let mut done = from;
-    while done < text.len() {
-        let got = libc::read(fd, &mut text[done..]);
-        if got < 0 {
-            return Input::Failed;
-        }
-        let more = io::count(got, &text[done..]);
-        if more == 0 {
-            return Input::Whole { length: done };
-        }
-        done += more;
+    let more = read_full(input, &mut text[from..]);
+    if more.failed {
+        return Input::Failed;
+    }
+    let done = from + more.length;
+    if done < text.len() {
+        return Input::Whole { length: done };
     }
     Input::Long
 }
 
 // The network of a text, in memory for the longest text of an answer.
-fn answer(text: &[u8], epsilon: u16) {
+fn answer(console: &mut Console, text: &[u8], epsilon: u16) {
     let mut out = [0u8; TEXT_ROOM];
     let used = answer_fasta(text, epsilon, &mut out);
-    print(&out[0..used]);
+    print(console, &out[0..used]);
 }
 
-// The text that a descriptor hands out, of at most a mebibyte, the front of which is read.
-fn answer_long(fd: i32, front: &[u8; 2047], epsilon: u16) {
+// The text that a reader hands out, of at most a mebibyte, the front of which is read.
+fn answer_long<R: Read>(console: &mut Console, input: &mut R, front: &[u8; 2047], epsilon: u16) {
     let mut text = mebibyte();
     copy(front, &mut text, 0);
-    match read_text(fd, &mut text, 2047) {
-        Input::Whole { length } => answer(&text[..length], epsilon),
-        Input::Long => complain(b"hurdlesong_fasta: the text is longer than 1048576 bytes\n"),
-        Input::Failed => complain(b"hurdlesong_fasta: the text could not be read\n"),
+    match read_text(input, &mut text, 2047) {
+        Input::Whole { length } => answer(console, &text[..length], epsilon),
+        Input::Long => complain(
+            console,
+            b"hurdlesong_fasta: the text is longer than 1048576 bytes\n",
+        ),
+        Input::Failed => complain(console, b"hurdlesong_fasta: the text could not be read\n"),
     }
 }
 
 // Most texts are short, and a mebibyte takes longer to make than they take to answer: so a text is read to little memory first.
-fn answer_from(fd: i32, epsilon: u16) {
+fn answer_from<R: Read>(console: &mut Console, input: &mut R, epsilon: u16) {
     let mut text = [0u8; 2047];
-    match read_text(fd, &mut text, 0) {
-        Input::Whole { length } => answer(&text[..length], epsilon),
-        Input::Long => answer_long(fd, &text, epsilon),
-        Input::Failed => complain(b"hurdlesong_fasta: the text could not be read\n"),
+    match read_text(input, &mut text, 0) {
+        Input::Whole { length } => answer(console, &text[..length], epsilon),
+        Input::Long => answer_long(console, input, &text, epsilon),
+        Input::Failed => complain(console, b"hurdlesong_fasta: the text could not be read\n"),
     }
 }
 
 // The text in the file that the second argument names. A name that does not fit the buffer leaves no bytes, as an empty one does.
-fn answer_file(epsilon: u16) {
-    let mut path = io::buffer();
-    let n = os::arg(2, &mut path);
+fn answer_file(rt: &(impl Env + Files), console: &mut Console, epsilon: u16) {
+    let mut path = buffer();
+    let n = argument(rt, 2, &mut path);
     if n == 0 {
-        complain(b"hurdlesong_fasta: the name of the file is empty or too long\n");
+        complain(
+            console,
+            b"hurdlesong_fasta: the name of the file is empty or too long\n",
+        );
         return;
     }
-    let fd = os::open_read(&path[..n]);
-    if fd < 0 {
-        os::fail(&path[..n]);
-        return;
+    if let Some(mut file) = open(rt, &path[..n], &mut console.errors) {
+        answer_from(console, &mut file, epsilon);
     }
-    answer_from(fd, epsilon);
-    libc::close(fd);
 }
 
 // The epsilon that the first argument says. One that is missing, empty or too long leaves no bytes, and those write no number.
-fn first_argument() -> Numeral {
-    let mut word = io::buffer();
-    let n = os::arg(1, &mut word);
+fn first_argument(environment: &impl Env) -> Numeral {
+    let mut word = buffer();
+    let n = argument(environment, 1, &mut word);
     read_number(&word[..n])
 }
 
 // The arguments are counted with the name of the program, which is the first.
-fn main() {
-    let count = os::arg_count();
+fn main(rt: HostRuntime) {
+    let mut console = Console {
+        output: rt.stdout(),
+        errors: rt.stderr(),
+    };
+    let count = argument_count(&rt);
     if 3 < count {
-        complain(b"hurdlesong_fasta: at most two arguments, epsilon and a file\n");
+        complain(
+            &mut console,
+            b"hurdlesong_fasta: at most two arguments, epsilon and a file\n",
+        );
         return;
     }
     if count < 2 {
-        answer_from(libc::STDIN_FILENO, 0);
+        answer_from(&mut console, &mut rt.stdin(), 0);
         return;
     }
-    match first_argument() {
+    match first_argument(&rt) {
         Numeral::Number { value } => {
             if count == 3 {
-                answer_file(value);
+                answer_file(&rt, &mut console, value);
             } else {
-                answer_from(libc::STDIN_FILENO, value);
+                answer_from(&mut console, &mut rt.stdin(), value);
             }
         }
         Numeral::Other => {
-            complain(b"hurdlesong_fasta: the epsilon is not a decimal number from 0 to 65535\n")
+            complain(
+                &mut console,
+                b"hurdlesong_fasta: the epsilon is not a decimal number from 0 to 65535\n",
+            )
         }
     }
 }

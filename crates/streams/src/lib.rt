@@ -11,6 +11,15 @@ pub mod reading;
 
 ghost use Rattle.std.specs.Prelude.{◌≡◌, length};
 
+use std::io::{Stderr, Stdout};
+
+// Where a program's answers go, and where a line goes that says why there is none.
+#[derive(Clone, Copy)]
+pub struct Console {
+    pub output: Stdout,
+    pub errors: Stderr,
+}
+
 // Zeros that hold every name of a file that the system takes. Only their number is known of them, so that no proof goes through so many.
 pub fn buffer() -> [u8; 4096]
     ensures { 4096 ≡ length result }

@@ -12,16 +12,24 @@ use crate::build::built;
 use answers::tell;
 use rules::{Answer, Link, MOST_LINKS};
 use service::call_with;
+use std::io::Stdout;
+use streams::printing::write_all;
 use text::text;
 
 // No area is longer.
 const LONGEST: usize = 60000;
 
 // The first bytes of the text of an answer, less than 256.
-fn print_answer<'a>(job: &'a [u8], res: &'a [u8], answer: Answer, shown: usize) {
+fn print_answer<'a>(
+    output: &mut Stdout,
+    job: &'a [u8],
+    res: &'a [u8],
+    answer: Answer,
+    shown: usize,
+) {
     let mut out = [165u8; 172800];
     text(job, res, answer, &mut out);
-    io::write_all(libc::STDOUT_FILENO, &out[0..shown % 256]);
+    write_all(output, &out[0..shown % 256]);
 }
 
 // Whether a record of the table is there.
@@ -56,6 +64,7 @@ fn all_zero(
 
 // A job is answered over memory as it is found, and what is left in the memory is looked for.
 fn answer_over(
+    output: &mut Stdout,
     job: &[u8],
     shown: usize,
     res: &mut [u8],
@@ -66,16 +75,16 @@ fn answer_over(
     let owned = call_with(job, res, states, distances, table);
     let answer = owned.answer;
     let table = owned.table;
-    print_answer(job, res, answer, shown);
+    print_answer(output, job, res, answer, shown);
     let told = tell(answer);
     if all_zero(res, told.used, states, distances, table) {
-        io::write_all(libc::STDOUT_FILENO, b"work memory and unused result zero\n");
+        write_all(output, b"work memory and unused result zero\n");
     } else {
-        io::write_all(libc::STDOUT_FILENO, b"something is left in the memory\n");
+        write_all(output, b"something is left in the memory\n");
     }
 }
 
-fn answer_twice(job: &[u8], shown: usize) {
+fn answer_twice(output: &mut Stdout, job: &[u8], shown: usize) {
     let mut result = [165u8; LONGEST];
     let mut states = [165u8; LONGEST];
     let mut distances = [165u16; LONGEST];
@@ -85,6 +94,7 @@ fn answer_twice(job: &[u8], shown: usize) {
         length: 165,
     };
     answer_over(
+        output,
         job,
         shown,
         &mut result,
@@ -101,6 +111,7 @@ fn answer_twice(job: &[u8], shown: usize) {
         length: 90,
     };
     answer_over(
+        output,
         job,
         shown,
         &mut result,
@@ -111,32 +122,41 @@ fn answer_twice(job: &[u8], shown: usize) {
 }
 
 // n rows of m, the first of which are a grid with b states in its second column. Its first state is the least.
-fn case(name: &[u8], n: usize, m: usize, grid: usize, b: usize, first: u8, shown: usize)
+fn case(
+    output: &mut Stdout,
+    name: &[u8],
+    n: usize,
+    m: usize,
+    grid: usize,
+    b: usize,
+    first: u8,
+    shown: usize,
+)
     requires { (1 ≤ m) × (1 ≤ b) × (12 + 2 * m + n * m ≤ 16525) }
 {
-    io::write_all(libc::STDOUT_FILENO, name);
+    write_all(output, name);
     let job = built(n, m, grid, b, first);
-    answer_twice(&job[0..12 + 2 * m + n * m], shown);
+    answer_twice(output, &job[0..12 + 2 * m + n * m], shown);
 }
 
-fn grids() {
-    case(b"R1\n", 128, 2, 128, 16, b'0', 42);
-    case(b"R2\n", 129, 2, 129, 16, b'0', 14);
-    case(b"R3\n", 124, 5, 121, 11, b'0', 42);
-    case(b"R4\n", 128, 5, 125, 25, b'0', 12);
+fn grids(output: &mut Stdout) {
+    case(output, b"R1\n", 128, 2, 128, 16, b'0', 42);
+    case(output, b"R2\n", 129, 2, 129, 16, b'0', 14);
+    case(output, b"R3\n", 124, 5, 121, 11, b'0', 42);
+    case(output, b"R4\n", 128, 5, 125, 25, b'0', 12);
 }
 
 // Equal rows of equal states.
-fn bounds() {
-    case(b"256 rows\n", 256, 1, 256, 256, b'A', 47);
-    case(b"257 rows\n", 257, 1, 257, 257, b'A', 12);
-    case(b"width 64\n", 1, 64, 1, 1, b'A', 108);
-    case(b"width 65\n", 1, 65, 1, 1, b'A', 12);
+fn bounds(output: &mut Stdout) {
+    case(output, b"256 rows\n", 256, 1, 256, 256, b'A', 47);
+    case(output, b"257 rows\n", 257, 1, 257, 257, b'A', 12);
+    case(output, b"width 64\n", 1, 64, 1, 1, b'A', 108);
+    case(output, b"width 65\n", 1, 65, 1, 1, b'A', 12);
 }
 
 // A distance area that is one number short: check 1 refuses the job, and everything is cleared all the same.
-fn area_short(job: &[u8]) {
-    io::write_all(libc::STDOUT_FILENO, b"distance area one short\n");
+fn area_short(output: &mut Stdout, job: &[u8]) {
+    write_all(output, b"distance area one short\n");
     let mut result = [165u8; LONGEST];
     let mut states = [165u8; LONGEST];
     let mut distances = [165u16; 16383];
@@ -146,6 +166,7 @@ fn area_short(job: &[u8]) {
         length: 165,
     };
     answer_over(
+        output,
         job,
         12,
         &mut result,
@@ -156,16 +177,17 @@ fn area_short(job: &[u8]) {
 }
 
 // The first example of the paper: A, B, C, D, with its weights, at epsilon 0.
-fn first_example() {
-    io::write_all(libc::STDOUT_FILENO, b"example 1 of the paper\n");
+fn first_example(output: &mut Stdout) {
+    write_all(output, b"example 1 of the paper\n");
     let job =
         b"\x04\0\x05\0\0\0\x0c\0\x16\0\x2a\0\x01\0\x03\0\x02\0\x01\0\x02\000000110001011001101";
-    answer_twice(job, 137);
-    area_short(job);
+    answer_twice(output, job, 137);
+    area_short(output, job);
 }
 
-fn main() {
-    grids();
-    bounds();
-    first_example();
+fn main(rt: HostRuntime) {
+    let mut output = rt.stdout();
+    grids(&mut output);
+    bounds(&mut output);
+    first_example(&mut output);
 }

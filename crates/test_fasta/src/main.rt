@@ -9,24 +9,27 @@ use answers::Told;
 use fasta::conversion::tell_conversion;
 use fasta::make_job;
 use memory::numerals::{Numeral, read_number};
+use std::io::Stdout;
+use std::rt::{Env, Files};
+use streams::arguments::{argument, argument_count};
+use streams::files::open;
+use streams::printing::{print_decimal, write_all};
+use streams::reading::read_full;
+use streams::{Console, buffer, large_buffer};
 
-// Lines on standard output and on standard error.
-fn say(line: &[u8]) {
-    io::write_all(libc::STDOUT_FILENO, line);
-}
-
-fn complain(line: &[u8]) {
-    io::write_all(libc::STDERR_FILENO, line);
+// A line on standard error.
+fn complain(console: &mut Console, line: &[u8]) {
+    write_all(&mut console.errors, line);
 }
 
 // The number, the place and the bytes used, in decimal.
-fn print_told(told: Told) {
-    io::print_decimal(libc::STDOUT_FILENO, told.number as u64);
-    say(b" ");
-    io::print_decimal(libc::STDOUT_FILENO, told.place as u64);
-    say(b" ");
-    io::print_decimal(libc::STDOUT_FILENO, told.used as u64);
-    say(b"\n");
+fn print_told(output: &mut Stdout, told: Told) {
+    print_decimal(output, told.number);
+    write_all(output, b" ");
+    print_decimal(output, told.place);
+    write_all(output, b" ");
+    print_decimal(output, told.used);
+    write_all(output, b"\n");
 }
 
 // Whether all bytes from a place up to another have a value.
@@ -41,83 +44,99 @@ fn filled(bytes: &[u8], from: usize, to: usize, value: u8) -> bool {
 
 // The job of a text, in memory of which a part is lent. The memory is not clear, so that what is left in the part, and what is written past
 // it, shows.
-fn show(text: &[u8], epsilon: u16, lent: usize, job: &mut [u8])
+fn show(output: &mut Stdout, text: &[u8], epsilon: u16, lent: usize, job: &mut [u8])
     requires { lent ≤ length job.old }
 {
     let told = tell_conversion(make_job(text, epsilon, &mut job[..lent]));
-    print_told(told);
+    print_told(output, told);
     let used = told.used;
     if used <= lent {
-        say(&job[..used]);
+        write_all(output, &job[..used]);
     } else {
-        say(b"more is used than was lent\n");
+        write_all(output, b"more is used than was lent\n");
     }
     if !filled(job, used, lent, 0) {
-        say(b"something is left in the memory\n");
+        write_all(output, b"something is left in the memory\n");
     }
     if !filled(job, lent, job.len(), 165) {
-        say(b"memory past the job was written\n");
+        write_all(output, b"memory past the job was written\n");
     }
 }
 
 // The text in the file that argument k names. A stored text has at most the 65,536 bytes of the buffer.
-fn show_file(k: usize, epsilon: u16, lent: usize)
+fn show_file(rt: &(impl Env + Files), console: &mut Console, k: usize, epsilon: u16, lent: usize)
     requires { lent ≤ 17000 }
 {
-    let mut path = io::buffer();
-    let n = os::arg(k, &mut path);
-    let fd = os::open_read(&path[..n]);
-    if fd < 0 {
-        os::fail(&path[..n]);
+    let mut path = buffer();
+    let n = argument(rt, k, &mut path);
+    let Some(mut file) = open(rt, &path[..n], &mut console.errors) else {
         return;
-    }
-    let mut text = io::large_buffer();
-    let n = io::read_full(fd, &mut text);
-    libc::close(fd);
+    };
+    let mut text = large_buffer();
+    let n = read_full(&mut file, &mut text).length;
     let mut job = [165u8; 17000];
-    show(&text[..n], epsilon, lent, &mut job);
+    show(&mut console.output, &text[..n], epsilon, lent, &mut job);
 }
 
 // The number that argument k says. One that is missing, empty or too long leaves no bytes, and those write no number.
-fn number(k: usize) -> Numeral {
-    let mut word = io::buffer();
-    let n = os::arg(k, &mut word);
+fn number(environment: &impl Env, k: usize) -> Numeral {
+    let mut word = buffer();
+    let n = argument(environment, k, &mut word);
     read_number(&word[..n])
 }
 
 // The lent length that argument k says. What is no number is taken for one that is too large, so that one test refuses both.
-fn lent_length(k: usize) -> usize {
-    match number(k) {
+fn lent_length(environment: &impl Env, k: usize) -> usize {
+    match number(environment, k) {
         Numeral::Number { value } => value as usize,
         Numeral::Other => 17001,
     }
 }
 
 // The job of three arguments, by their places.
-fn show_job(lent_at: usize, epsilon_at: usize, file_at: usize) {
-    let lent = lent_length(lent_at);
+fn show_job(
+    rt: &(impl Env + Files),
+    console: &mut Console,
+    lent_at: usize,
+    epsilon_at: usize,
+    file_at: usize,
+) {
+    let lent = lent_length(rt, lent_at);
     if 17000 < lent {
-        complain(b"test_fasta: the lent length is not a decimal number from 0 to 17000\n");
+        complain(
+            console,
+            b"test_fasta: the lent length is not a decimal number from 0 to 17000\n",
+        );
         return;
     }
-    match number(epsilon_at) {
-        Numeral::Number { value } => show_file(file_at, value, lent),
+    match number(rt, epsilon_at) {
+        Numeral::Number { value } => show_file(rt, console, file_at, value, lent),
         Numeral::Other => {
-            complain(b"test_fasta: the epsilon is not a decimal number from 0 to 65535\n")
+            complain(
+                console,
+                b"test_fasta: the epsilon is not a decimal number from 0 to 65535\n",
+            )
         }
     }
 }
 
 // Arguments are counted with the name of the program, which is the first.
-fn main() {
-    let count = os::arg_count();
+fn main(rt: HostRuntime) {
+    let mut console = Console {
+        output: rt.stdout(),
+        errors: rt.stderr(),
+    };
+    let count = argument_count(&rt);
     let mut k = 1;
     while k < count {
         if count - k < 3 {
-            complain(b"test_fasta: arguments come in threes, bytes lent, epsilon and a file\n");
+            complain(
+                &mut console,
+                b"test_fasta: arguments come in threes, bytes lent, epsilon and a file\n",
+            );
             return;
         }
-        show_job(k, k + 1, k + 2);
+        show_job(&rt, &mut console, k, k + 1, k + 2);
         k += 3;
     }
 }

@@ -3,6 +3,7 @@
 use crate::show::{answer, number, put};
 use answers::{Told, tell};
 use job::checks::check;
+use std::io::Stdout;
 
 // The answer to the first n bytes.
 fn cut(job: &[u8], n: usize) -> Told {
@@ -32,12 +33,12 @@ fn changed(job: &mut [u8], what: usize, at: usize, value: usize) -> Told {
 }
 
 // The values from the first to the last were answered alike.
-fn put_run(first: usize, last: usize, told: Told) {
-    number(b"  ", first);
+fn put_run(output: &mut Stdout, first: usize, last: usize, told: Told) {
+    number(output, b"  ", first);
     if first < last {
-        number(b"..", last);
+        number(output, b"..", last);
     }
-    answer(told);
+    answer(output, told);
 }
 
 // The largest value: all bytes are there, or all bits are set.
@@ -50,18 +51,18 @@ fn largest(job: &[u8], what: usize) -> usize {
 }
 
 // The part at every value, from 0 to the largest.
-pub(crate) fn damage_all(job: &mut [u8], what: usize, at: usize) {
-    put(b"\n");
+pub(crate) fn damage_all(output: &mut Stdout, job: &mut [u8], what: usize, at: usize) {
+    put(output, b"\n");
     let last = largest(job, what);
     let mut told = changed(job, what, at, 0);
     let mut first = 0;
     for value in 0..last {
         let new = changed(job, what, at, value + 1);
         if new.number != told.number || new.place != told.place {
-            put_run(first, value, told);
+            put_run(output, first, value, told);
             told = new;
             first = value + 1;
         }
     }
-    put_run(first, last, told);
+    put_run(output, first, last, told);
 }

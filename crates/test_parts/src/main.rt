@@ -11,41 +11,45 @@ use crate::damages::damage_all;
 use crate::purges::purged;
 use crate::show::put;
 use memory::word_at;
+use std::io::{Stdin, Stdout};
+use streams::reading::read_full;
 
-fn read(part: &mut [u8], n: usize) {
+fn read(input: &mut Stdin, part: &mut [u8], n: usize) {
     if n <= part.len() {
-        io::read_full(libc::STDIN_FILENO, &mut part[0..n]);
+        read_full(input, &mut part[0..n]);
     }
 }
 
 // The next question: what is asked, and of what; the lengths of the title and of the job; both. There is none where its head is cut.
 // Asked is the answer to a job at every length (1), at every value of the number (2) or of the byte (3) at a place; or what a purge
 // leaves of its types, of which so many are sampled, with each link (4) or without (5).
-fn question() -> bool {
+fn question(input: &mut Stdin, output: &mut Stdout) -> bool {
     let mut head = [0u8; 8];
-    if io::read_full(libc::STDIN_FILENO, &mut head) < 8 {
+    if read_full(input, &mut head).length < 8 {
         return false;
     }
     let mut title = [0u8; 64];
     let mut job = [0u8; 16896];
     let t = word_at(&head, 4) % 65;
     let n = word_at(&head, 6) % 16897;
-    read(&mut title, t);
-    read(&mut job, n);
-    put(&title[0..t]);
+    read(input, &mut title, t);
+    read(input, &mut job, n);
+    put(output, &title[0..t]);
     let what = word_at(&head, 0);
     let of = word_at(&head, 2);
     if what < 4 {
-        damage_all(&mut job[0..n], what, of);
+        damage_all(output, &mut job[0..n], what, of);
     } else {
-        purged(&job[0..n], of, what == 4);
+        purged(output, &job[0..n], of, what == 4);
     }
     true
 }
 
-fn main() {
+fn main(rt: HostRuntime) {
+    let mut input = rt.stdin();
+    let mut output = rt.stdout();
     for _ in 0..1000usize {
-        if !question() {
+        if !question(&mut input, &mut output) {
             return;
         }
     }

@@ -13,6 +13,7 @@ use purge::purge;
 use purge::state::Held;
 use rules::{DISTANCE_AREA, Kind, Origin, STATE_AREA};
 use run::start::begin;
+use std::io::Stdout;
 
 // The types from the first on are inferred ones.
 fn inferred_from(kinds: [Kind; 128], first: usize) -> [Kind; 128] {
@@ -25,48 +26,48 @@ fn inferred_from(kinds: [Kind; 128], first: usize) -> [Kind; 128] {
     kinds
 }
 
-fn put_two(x: usize, y: usize) {
-    number(b" ", x);
-    number(b" ", y);
-    put(b" ");
+fn put_two(output: &mut Stdout, x: usize, y: usize) {
+    number(output, b" ", x);
+    number(output, b" ", y);
+    put(output, b" ");
 }
 
 // A current type by its number and origin, a retired row by R.
-fn put_origin(i: usize, types: usize, kind: Kind) {
+fn put_origin(output: &mut Stdout, i: usize, types: usize, kind: Kind) {
     if types <= i {
-        put(b"R ");
+        put(output, b"R ");
         return;
     }
-    number(b"T ", i);
+    number(output, b"T ", i);
     let origin = kind.origin;
     match origin {
-        Origin::Sampled { rows, first } => put_two(rows, first),
-        Origin::Inferred { round } => put_two(0, round),
+        Origin::Sampled { rows, first } => put_two(output, rows, first),
+        Origin::Inferred { round } => put_two(output, 0, round),
     }
 }
 
 // The current types, and the retired rows behind them.
-fn show_types(states: &[u8], m: usize, held: Held)
+fn show_types(output: &mut Stdout, states: &[u8], m: usize, held: Held)
     requires { (length states.now ≡ state_area) × (m ≤ most_width) × (held.state.made ≤ most_types) }
 {
     let state = held.state;
     let kinds = held.kinds;
     for i in 0..state.made {
-        put_origin(i, state.types, kinds[i]);
-        put(&states[64 * i..64 * i + m]);
-        put(b"\n");
+        put_origin(output, i, state.types, kinds[i]);
+        put(output, &states[64 * i..64 * i + m]);
+        put(output, b"\n");
     }
 }
 
-fn show_link(i: usize, j: usize, length: usize) {
-    put(b"L");
-    put_two(i, j);
-    number(b"", length);
-    put(b"\n");
+fn show_link(output: &mut Stdout, i: usize, j: usize, length: usize) {
+    put(output, b"L");
+    put_two(output, i, j);
+    number(output, b"", length);
+    put(output, b"\n");
 }
 
 // The links of type i and higher types, and how many they are.
-fn put_line(area: &[u16], t: usize, i: usize, each: bool) -> usize
+fn put_line(output: &mut Stdout, area: &[u16], t: usize, i: usize, each: bool) -> usize
     requires { (length area.now ≡ distance_area) × (t ≤ most_types) × (i < t) }
     ensures { result ≤ most_types }
 {
@@ -75,28 +76,28 @@ fn put_line(area: &[u16], t: usize, i: usize, each: bool) -> usize
         if linked(area, i, j) {
             links += 1;
             if each {
-                show_link(i, j, area[128 * i + j] as usize);
+                show_link(output, i, j, area[128 * i + j] as usize);
             }
         }
     }
     links
 }
 
-fn show_links(area: &[u16], t: usize, each: bool)
+fn show_links(output: &mut Stdout, area: &[u16], t: usize, each: bool)
     requires { (length area.now ≡ distance_area) × (t ≤ most_types) }
 {
     let mut links = 0;
     for i in 0..t {
-        links += put_line(area, t, i, each);
+        links += put_line(output, area, t, i, each);
     }
-    number(b"links ", links);
+    number(output, b"links ", links);
 }
 
 // The types of a job, of which so many are sampled, are purged at its epsilon.
-pub(crate) fn purged(job: &[u8], sampled: usize, each: bool) {
+pub(crate) fn purged(output: &mut Stdout, job: &[u8], sampled: usize, each: bool) {
     let checked = tell(check(job));
     if checked.number != 0 {
-        answer(checked);
+        answer(output, checked);
         return;
     }
     let header = header_of(job);
@@ -109,10 +110,10 @@ pub(crate) fn purged(job: &[u8], sampled: usize, each: bool) {
     let found = held.kinds;
     let kinds = inferred_from(found, sampled);
     let left = purge(&mut states, &mut area, Held { state, kinds });
-    number(b" epsilon ", header.epsilon);
-    put(b"\n");
-    show_types(&states, header.width, left);
-    show_links(&area, left.state.types, each);
+    number(output, b" epsilon ", header.epsilon);
+    put(output, b"\n");
+    show_types(output, &states, header.width, left);
+    show_links(output, &area, left.state.types, each);
     let refused = begun.answer;
-    answer(tell(refused));
+    answer(output, tell(refused));
 }

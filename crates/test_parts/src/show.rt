@@ -1,19 +1,21 @@
 // What is printed: texts and numbers, and an answer as its number and place.
 
 use answers::Told;
+use std::io::Stdout;
+use streams::printing::{print_decimal, write_all};
 
-pub(crate) fn put(text: &[u8]) {
-    io::write_all(libc::STDOUT_FILENO, text);
+pub(crate) fn put(output: &mut Stdout, text: &[u8]) {
+    write_all(output, text);
 }
 
-pub(crate) fn number(before: &[u8], x: usize) {
-    put(before);
-    io::print_decimal(libc::STDOUT_FILENO, x as u64);
+pub(crate) fn number(output: &mut Stdout, before: &[u8], x: usize) {
+    put(output, before);
+    print_decimal(output, x);
 }
 
 // The end of a line.
-pub(crate) fn answer(told: Told) {
-    number(b": ", told.number);
-    number(b" ", told.place);
-    put(b"\n");
+pub(crate) fn answer(output: &mut Stdout, told: Told) {
+    number(output, b": ", told.number);
+    number(output, b" ", told.place);
+    put(output, b"\n");
 }

@@ -3,33 +3,40 @@
 #![tactic(auto)]
 
 use service::answer_text;
+use std::io::Read;
+use std::rt::{Env, Files};
+use streams::arguments::{argument, argument_count};
+use streams::files::open;
+use streams::printing::write_all;
+use streams::reading::read_full;
+use streams::{Console, buffer};
 use text::TEXT_ROOM;
 
-// The answer to the job that a descriptor hands out.
-fn answer(fd: i32) {
+// The answer to the job that a reader hands out.
+fn answer<R: Read>(console: &mut Console, input: &mut R) {
     let mut job = [0u8; 16525];
-    let n = io::read_full(fd, &mut job);
+    let n = read_full(input, &mut job).length;
     let mut out = [0u8; TEXT_ROOM];
     let used = answer_text(&job[..n], &mut out);
-    io::write_all(libc::STDOUT_FILENO, &out[0..used]);
+    write_all(&mut console.output, &out[0..used]);
 }
 
 // The job in the file that argument k names.
-fn answer_file(k: usize) {
-    let mut path = io::buffer();
-    let n = os::arg(k, &mut path);
-    let fd = os::open_read(&path[..n]);
-    if fd < 0 {
-        os::fail(&path[..n]);
-        return;
+fn answer_file(rt: &(impl Env + Files), console: &mut Console, k: usize) {
+    let mut path = buffer();
+    let n = argument(rt, k, &mut path);
+    if let Some(mut file) = open(rt, &path[..n], &mut console.errors) {
+        answer(console, &mut file);
     }
-    answer(fd);
-    libc::close(fd);
 }
 
-fn main() {
-    let count = os::arg_count();
+fn main(rt: HostRuntime) {
+    let mut console = Console {
+        output: rt.stdout(),
+        errors: rt.stderr(),
+    };
+    let count = argument_count(&rt);
     for k in 1..count {
-        answer_file(k);
+        answer_file(&rt, &mut console, k);
     }
 }

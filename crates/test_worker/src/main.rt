@@ -10,19 +10,20 @@ use answers::tell;
 use memory::word_at;
 use rules::{DISTANCE_AREA, Link, MOST_LINKS, RESULT_AREA, STATE_AREA};
 use service::call_with;
+use std::io::{Stdin, Stdout};
+use streams::large_buffer;
+use streams::printing::write_all;
+use streams::reading::read_full;
 use text::{TEXT_ROOM, tell_text, text};
 
-fn write(bytes: &[u8]) {
-    io::write_all(libc::STDOUT_FILENO, bytes);
-}
-
 // The low 16 bits of a number.
-fn write_low(x: usize) {
-    write(&[(x % 256) as u8, (x / 256 % 256) as u8]);
+fn write_low(output: &mut Stdout, x: usize) {
+    write_all(output, &[(x % 256) as u8, (x / 256 % 256) as u8]);
 }
 
 // A job is answered and its answer printed over memory as it is found, and all of it is written out.
 fn answer_over(
+    output: &mut Stdout,
     job: &[u8],
     res: &mut [u8],
     states: &mut [u8],
@@ -35,17 +36,17 @@ fn answer_over(
     let told = tell(answer);
     let printed = text(job, res, answer, out);
     let lines = tell_text(printed);
-    write_low(told.number);
-    write_low(told.place);
-    write_low(told.used);
-    write_low(lines.used);
-    write_low(lines.used / 65536);
-    write(res);
-    write(states);
-    write(out);
+    write_low(output, told.number);
+    write_low(output, told.place);
+    write_low(output, told.used);
+    write_low(output, lines.used);
+    write_low(output, lines.used / 65536);
+    write_all(output, res);
+    write_all(output, states);
+    write_all(output, out);
 }
 
-fn answer(job: &[u8]) {
+fn answer(output: &mut Stdout, job: &[u8]) {
     let mut result = [165u8; RESULT_AREA];
     let mut states = [90u8; STATE_AREA];
     let mut distances = [165u16; DISTANCE_AREA];
@@ -56,6 +57,7 @@ fn answer(job: &[u8]) {
     };
     let mut out = [90u8; TEXT_ROOM];
     answer_over(
+        output,
         job,
         &mut result,
         &mut states,
@@ -66,33 +68,33 @@ fn answer(job: &[u8]) {
 }
 
 // Whether there was a further job, and all of it. It is read into the space lent and answered.
-fn next(space: &mut [u8]) -> bool
+fn next(input: &mut Stdin, output: &mut Stdout, space: &mut [u8]) -> bool
     requires { 65535 ≤ length space.old }
 {
-    if io::read_full(libc::STDIN_FILENO, &mut space[..2]) < 2 {
+    if read_full(input, &mut space[..2]).length < 2 {
         return false;
     }
     let n = word_at(space, 0);
-    if io::read_full(libc::STDIN_FILENO, &mut space[..n]) < n {
+    if read_full(input, &mut space[..n]).length < n {
         return false;
     }
-    answer(&space[..n]);
+    answer(output, &space[..n]);
     true
 }
 
 // A run ends, so it takes a million jobs at most.
-fn work(space: &mut [u8])
+fn work(input: &mut Stdin, output: &mut Stdout, space: &mut [u8])
     requires { 65535 ≤ length space.old }
 {
     let most: usize = 1000000;
     for k in 0..most {
-        if !next(space) {
+        if !next(input, output, space) {
             return;
         }
     }
 }
 
-fn main() {
-    let mut space = io::large_buffer();
-    work(&mut space);
+fn main(rt: HostRuntime) {
+    let mut space = large_buffer();
+    work(&mut rt.stdin(), &mut rt.stdout(), &mut space);
 }
