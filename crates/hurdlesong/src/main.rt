@@ -4,13 +4,14 @@
 
 #![tactic(auto)]
 
-ghost use Rattle.std.specs.Prelude.{◌≤◌, length};
+ghost use Rattle.std.specs.Prelude.{◌≡◌, ◌≤◌, length, slice_range, take};
+ghost use Rattle.std.specs.Io.KnownBytes.{Consumes};
 
 use answers::Told;
 use memory::copy;
 use rules::{Answer, LARGEST_JOB, RESULT_AREA};
 use service::answer_job;
-use std::io::Stdin;
+use std::io::{Read, Stdin};
 use streams::Console;
 use streams::printing::write_all;
 use streams::reading::read_full;
@@ -70,9 +71,12 @@ fn answer(console: &mut Console, job: &[u8]) {
 }
 
 // Reads on behind what was read. What is handed back is the length of both together.
-fn read_on(input: &mut Stdin, front: &[u8], job: &mut [u8]) -> usize
+fn read_on<R: Read>(input: &mut R, front: &[u8], job: &mut [u8]) -> usize
     requires { length front.now ≤ length job.old }
-    ensures { result ≤ length job.new }
+    ensures within { result ≤ length job.new }
+    ensures behind { length front.now ≤ result }
+    ensures kept { take (length front.now) job.new ≡ front.now }
+    ensures read { Consumes (R.remaining input.old) (R.remaining input.new) (slice_range job.new (length front.now) result) }
 {
     copy(front, job, 0);
     let from = front.len();

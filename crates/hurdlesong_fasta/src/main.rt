@@ -4,8 +4,8 @@
 
 #![tactic(auto)]
 
-ghost use Rattle.std.specs.Prelude.{◌≡◌, ◌≤◌, length};
-ghost use Rattle.hurdlesong_fasta.specs.Fits.{Fits};
+ghost use Rattle.std.specs.Prelude.{◌≡◌, ◌≤◌, length, take};
+ghost use Rattle.hurdlesong_fasta.specs.Fits.{Fits, TakesAll};
 
 use memory::copy;
 use memory::numerals::{Numeral, read_number};
@@ -54,7 +54,9 @@ fn mebibyte() -> [u8; 1048577]
 // end, since what came before it is a part of a text and not the text.
 fn read_text<R: Read>(input: &mut R, text: &mut [u8], from: usize) -> Input
     requires { from ≤ length text.old }
-    ensures { Fits result text.new }
+    ensures fits { Fits result text.new }
+    ensures kept { take from text.new ≡ take from text.old }
+    ensures all { TakesAll result from text.new (R.remaining input.old) (R.remaining input.new) }
 {
     let more = read_full(input, &mut text[from..]);
     if more.failed {
