@@ -1,21 +1,21 @@
--- What is left in the memory lent where a line or a network is printed, and what the public functions say of it. What the other ends leave
--- needs no law: the check finds it.
+-- What is left in the memory lent, for each of the four ends of a call, and what the public functions say of it.
 use mathlib.Core.Path.{◌≡◌, ap, ◌∙◌}
+use mathlib.Core.Logic.{◌≢◌}
 use mathlib.Core.Bool.{Bool, true, false, cond, not, ◌&&◌}
-use Prim.Native.Nat.{ℕ, ◌≤◌}
-use native.Mathlib.Nat.{zero-add}
+use Prim.Native.Nat.{ℕ, ◌≤◌, ◌<◌}
+use native.Mathlib.Nat.{sub-zero, zero-add}
 use native.Mathlib.Omega.{arith}
 use lib.Dec.{ltb, eqb}
 use lib.ListN.{length, length-append, replicate}
-use borrow.Author.Tests.{le-ltb, eq-eqb}
-use Rattle.rules.specs.Answers.{number}
+use borrow.Author.Tests.{lt-ltb, le-ltb, eq-eqb, ne_eqb}
+use Rattle.rules.specs.Answers.{number, place}
 use Rattle.rules.specs.Call.{padded}
 use Rattle.rules.specs.Job.{Bytes}
 use Rattle.rules.specs.declared.Answer.{Answer}
 use Rattle.memory.specs.Placed.{Follows}
 use Rattle.memory.proofs.Placed.{placed-padded}
 use Rattle.text.specs.Lines.{legible, network_of}
-use Rattle.text.specs.Printed.{printed_used, text_room, text_of, refusal_of, brief_room, printed_within, printed_as, printed_bytes, RefusalWithin, TextWithin, TextLeft, brief_as, BriefLeft}
+use Rattle.text.specs.Printed.{printed_used, text_room, text_of, refusal_of, brief_room, printed_within, printed_as, printed_bytes, RefusalWithin, RefusalLeft, TextWithin, TextLeft, brief_as, BriefLeft}
 use Rattle.text.specs.declared.Printed.{Printed}
 use Rattle.text.specs.declared.Printed.TheVariants.{Done, Short, Block}
 use Rattle.text.proofs.listing.Legible.{read_is}
@@ -25,25 +25,49 @@ use Rattle.text.proofs.Network.{text-read}
 
 -- The memory lent holds zeros first.
 module _ (n at room lent : ℕ) {zeros : Bytes} (z : zeros ≡ replicate lent 0) where
+  pub no_room : lent < room → RefusalWithin n at room lent zeros Short
+  no_room h = record { answered = rw (lt-ltb lent room h); left = z ∙ rw (lt-ltb lent room h, sub-zero) }
+
   pub line-left : {out : Bytes} {r : ℕ} → room ≤ lent → Follows zeros 0 (refusal_of n at) out r → RefusalWithin n at room lent out (Done r)
   line-left h f = record {
     answered = rw (le-ltb lent room h) (ap Done (f.behind ∙ zero-add (length (refusal_of n at))));
     left = f.is ∙ rw (z, le-ltb lent room h) (placed-padded lent (refusal_of n at));
   }
 
+pub every-line : {n at lent : ℕ} {out : Bytes} {r : Printed} → RefusalWithin n at text_room lent out r → RefusalLeft n at lent out r
+every-line l = record { answered = l.answered; left = l.left }
+
 -- ── The text of an answer ──
 
 module _ (job block : Bytes) (answer : Answer) (room lent : ℕ) where
-  -- For a network the memory holds zeros first, and what is written from the front is the text.
-  module _ {zeros : Bytes} (z : zeros ≡ replicate lent 0) (n : number answer ≡ 0) (h : room ≤ lent) where
-    pub network-left : {out : Bytes} {r : ℕ} → legible job block ≡ true → Follows zeros 0 (network_of job block) out r →
-        TextWithin job block answer room lent out (Done r)
-    network-left e f =
-        let xs = network_of job block in
-        let text : text_of job block answer ≡ xs = rw (eq-eqb (number answer) 0 n) (text-read job block (read_is job block e).sampled_most) in
-        let done : printed_within room lent job block answer ≡ Done (length (text_of job block answer)) =
-        rw (le-ltb lent room h, eq-eqb (number answer) 0 n, e) in
-        record { answered = rw (done, text) (ap Done (f.behind ∙ zero-add (length xs))); left = f.is ∙ rw (z, done, text) (placed-padded lent xs) }
+  -- A refusal's text is its line.
+  pub refusal-left : {n at : ℕ} {out : Bytes} {r : Printed} → n ≡ number answer → at ≡ place answer → n ≢ 0 → RefusalWithin n at room lent out r →
+      TextWithin job block answer room lent out r
+  refusal-left n-is at_is f l =
+      let e = ne_eqb (number answer) 0 (λ z. f (n-is ∙ z)) in
+      record { answered = l.answered ∙ rw (e, n-is, at_is); left = l.left ∙ rw (e, n-is, at_is) }
+
+  -- For a network the memory holds zeros first.
+  module _ {zeros : Bytes} (z : zeros ≡ replicate lent 0) (n : number answer ≡ 0) where
+    pub room-left : lent < room → TextWithin job block answer room lent zeros Short
+    room-left h = record { answered = rw (lt-ltb lent room h); left = z ∙ rw (lt-ltb lent room h, sub-zero) }
+
+    module _ (h : room ≤ lent) where
+      pub block-left : legible job block ≡ false → TextWithin job block answer room lent zeros Block
+      block-left e = record {
+        answered = rw (le-ltb lent room h, eq-eqb (number answer) 0 n, e);
+        left = z ∙ rw (le-ltb lent room h, eq-eqb (number answer) 0 n, e, sub-zero);
+      }
+
+      -- What is written from the front is the text.
+      pub network-left : {out : Bytes} {r : ℕ} → legible job block ≡ true → Follows zeros 0 (network_of job block) out r →
+          TextWithin job block answer room lent out (Done r)
+      network-left e f =
+          let xs = network_of job block in
+          let text : text_of job block answer ≡ xs = rw (eq-eqb (number answer) 0 n) (text-read job block (read_is job block e).sampled_most) in
+          let done : printed_within room lent job block answer ≡ Done (length (text_of job block answer)) =
+          rw (le-ltb lent room h, eq-eqb (number answer) 0 n, e) in
+          record { answered = rw (done, text) (ap Done (f.behind ∙ zero-add (length xs))); left = f.is ∙ rw (z, done, text) (placed-padded lent xs) }
 
 -- ── What the public functions say of it ──
 

@@ -6,7 +6,7 @@ use Prim.Native.Nat.{ℕ, zero, suc, ◌+◌, ◌-◌, ◌≤◌, ◌<◌}
 use native.Mathlib.Omega.{arith}
 use lib.Dec.{ltb, eqb}
 use lib.ListN.{length, length-append}
-use borrow.Author.Tests.{lt-ltb, le-ltb, ne_eqb, ltb-false, eqb-true}
+use borrow.Author.Tests.{lt-ltb, le-ltb, eq-eqb, ne_eqb, ltb-false, eqb-true}
 use Rattle.graph.specs.Below.{gather, only, sum}
 use Rattle.graph.proofs.Below.{In, in_gather, in_only, sum_more, first-before, first-hits}
 use Rattle.rules.specs.Job.{Bytes, outside}
@@ -21,21 +21,29 @@ use Rattle.fasta.specs.Refusals.{before_first, in_some, bad_byte, held, one_too_
 
 -- ── Of a state ──
 
-module _ (text : Bytes) (i : ℕ) (s : is_state text i ≡ true) (some : 1 ≤ opened text i) (good : outside 33 126 (byte_at text i) ≡ false) where
-  pub wide_is : 64 ≤ held text i → fault_at text i ≡ Wide i
-  wide_is h =
-      rw (s, ne_eqb (opened text i) 0 (omega arith), lt-ltb 0 (opened text i) some, good, lt-ltb 64 (suc (held text i)) (omega arith))
+module _ (text : Bytes) (i : ℕ) (s : is_state text i ≡ true) where
+  pub before-is : opened text i ≡ 0 → fault_at text i ≡ Before i
+  before-is e = rw (s, eq-eqb (opened text i) 0 e)
 
-  pub state-passes : held text i < 64 → fault_at text i ≡ no_fault
-  state-passes h =
-      rw (
-        s,
-        ne_eqb (opened text i) 0 (omega arith),
-        lt-ltb 0 (opened text i) some,
-        good,
-        le-ltb 64 (suc (held text i)) (omega arith),
-        no_opener text i s,
-      )
+  module _ (some : 1 ≤ opened text i) where
+    pub byte_is : outside 33 126 (byte_at text i) ≡ true → fault_at text i ≡ Byte i
+    byte_is o = rw (s, ne_eqb (opened text i) 0 (omega arith), lt-ltb 0 (opened text i) some, o)
+
+    module _ (good : outside 33 126 (byte_at text i) ≡ false) where
+      pub wide_is : 64 ≤ held text i → fault_at text i ≡ Wide i
+      wide_is h =
+          rw (s, ne_eqb (opened text i) 0 (omega arith), lt-ltb 0 (opened text i) some, good, lt-ltb 64 (suc (held text i)) (omega arith))
+
+      pub state-passes : held text i < 64 → fault_at text i ≡ no_fault
+      state-passes h =
+          rw (
+            s,
+            ne_eqb (opened text i) 0 (omega arith),
+            lt-ltb 0 (opened text i) some,
+            good,
+            le-ltb 64 (suc (held text i)) (omega arith),
+            no_opener text i s,
+          )
 
 -- ── Of any other byte ──
 
@@ -43,8 +51,12 @@ module _ (text : Bytes) (i : ℕ) (s : is_state text i ≡ false) where
   pub skipped-passes : opens text i ≡ false → fault_at text i ≡ no_fault
   skipped-passes o = rw (s, o)
 
-  pub opener-passes : opens text i ≡ true → opened text i < 256 → fault_at text i ≡ no_fault
-  opener-passes o h = rw (s, o, le-ltb 256 (suc (opened text i)) (omega arith))
+  module _ (o : opens text i ≡ true) where
+    pub many_is : 256 ≤ opened text i → fault_at text i ≡ Many i
+    many_is h = rw (s, o, lt-ltb 256 (suc (opened text i)) (omega arith))
+
+    pub opener-passes : opened text i < 256 → fault_at text i ≡ no_fault
+    opener-passes h = rw (s, o, le-ltb 256 (suc (opened text i)) (omega arith))
 
 -- ── No fault ──
 

@@ -81,6 +81,9 @@ module _ (text : Bytes) {lengths : Bytes} {r : Reading} (read : ReadAll text len
     pub length_at : (k : ℕ) → k < 256 → get_or lengths k 0 ≡ length (sequence text k)
     length_at k h = rw (read.lengths_are, to_end) (lengths-at text (length text) k h)
 
+    pub narrow : get_or lengths 0 0 ≤ 64
+    narrow = omega (arith, length_at 0 (omega arith), few-states text (length text) 0 clear)
+
     pub passes_on : r.answer ≡ no_fault
     passes_on = read.answer_is ∙ rw faultless
 

@@ -1,9 +1,13 @@
 -- A header that fits, field by field; and a job and a block that match.
-use mathlib.Core.Path.{◌≡◌}
-use mathlib.Core.Bool.{true, and-eq-true_iff}
-use Prim.Native.Nat.{ℕ, ◌≤◌}
+use mathlib.Core.Path.{◌≡◌, sym, ◌∙◌}
+use mathlib.Core.Bool.{true, false, not, and-eq-true_iff}
+use Prim.Native.Nat.{ℕ, ◌*◌, ◌-◌, ◌≤◌}
+use native.Mathlib.Nat.{mul-le-mul}
+use native.Mathlib.Omega.{arith}
+use lib.Dec.{eqb}
 use lib.ListN.{length}
-use borrow.Author.Tests.{leb-true, eqb-true}
+use borrow.Author.Tests.{leb-true, eqb-true, eqb-false, not-true, not-false}
+use Rattle.graph.proofs.Below.{is_false}
 use Rattle.rules.specs.Answers.{number}
 use Rattle.rules.specs.Job.{Bytes, word, width, checked}
 use Rattle.rules.specs.Result.{records_offset, rows_offset, links_offset}
@@ -45,6 +49,17 @@ header_is e =
       reaches = leb-true _ _ s9.1;
     }
 
+-- A block without such a header fails the test.
+pub no_header : (m : ℕ) (block : Bytes) (t s : ℕ) → (Header m block t s → ⊥) → false ≡ header_fits m block t s
+no_header m block t s h = sym (is_false _ (λ e. h (header_is e)))
+
+-- A field that was read and held against what it must be, where only the test is kept: what that says of the field itself.
+pub agrees : {read field : ℕ} (y : ℕ) → read ≡ field → not (eqb read y) ≡ false → eqb field y ≡ true
+agrees y is t = rw (← is) (not-false _ t)
+
+pub differs : {read field y : ℕ} → read ≡ field → not (eqb read y) ≡ true → field ≡ y → ⊥
+differs is t e = eqb-false _ _ (not-true _ t) (is ∙ e)
+
 -- A job and a block that match: the job passes, what is known of it then, and the block's header.
 pub record Matched (job block : Bytes) : Type 0 where
   pub pass : number (checked job) ≡ 0
@@ -56,3 +71,7 @@ matched-is job block e =
     let s = (and-eq-true_iff _ _).0 e in
     let p = eqb-true _ _ s.0 in
     record { pass = p; passed = passed_is job p; header = header_is s.1 }
+
+-- The inferred rows of a block take few bytes, whatever width its job has.
+pub few-inferred : {m : ℕ} (t s : ℕ) → t ≤ 128 → m ≤ 65535 → (t - s) * m ≤ 8388480
+few-inferred t s h l = let d : t - s ≤ 128 = omega arith in omega (arith, mul-le-mul {n₂ = 128} {m₂ = 65535} d l)
