@@ -31,7 +31,7 @@ answer=$(mktemp)
 trap 'rm -f "$answer"' EXIT
 case $file in
 *.job) "$program" < "$file" > "$answer" ;;
-*) "$program" "$epsilon" "$file" > "$answer" ;;
+*) "$program" "$epsilon" < "$file" > "$answer" ;;
 esac
 cat "$answer"
 test -s "$answer"

@@ -1,4 +1,4 @@
-/* Hurdlesong for C: haplotype networks, proved. The functions are in libhurdlesong_c.a (x86-64), which scripts/archive.sh makes.
+/* Hurdlesong for C: haplotype networks, proved. The functions are in libhurdlesong_c.a (x86-64-v2, Linux), which scripts/archive.sh makes.
  *
  * Each function answers for every input, however damaged, and alters nothing but what it is lent as writable. What holds of them is proved of
  * the library's source; that a caller keeps to the following is checked by nothing:

@@ -27,7 +27,8 @@ over_gate() {
 
 if ! newest "$made"; then
     proving "the archive"
-    if ! over_gate > /dev/null 2>&1 && ! log=$(cd "crates/$crate" && rt lib 2>&1 < /dev/null); then
+    if ! over_gate > /dev/null 2>&1 && echo "$0: not over what rt ci left; rt lib proves each library that it needs" >&2 &&
+        ! log=$(cd "crates/$crate" && rt lib 2>&1 < /dev/null); then
         printf '%s\n' "$log" >&2
         exit 1
     fi

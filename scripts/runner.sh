@@ -1,9 +1,9 @@
 # Sourced by the scripts that run a proved program or build the archive, at the top of the checkout. What rt makes of a crate lies in its out/.
 
-# newest FILE: whether the file is there, and nothing that a check reads was changed since it was made. A folder counts too, since it is
-# changed when one of its files goes.
+# newest FILE: whether the file is there, and nothing that a check reads was changed since it was made, nor the toolchain. A folder counts
+# too, since it is changed when one of its files goes.
 newest() {
-    [ -e "$1" ] && [ -z "$(find crates.txt crates/*/src crates/*/specs crates/*/proofs -newer "$1" -print -quit)" ]
+    [ -e "$1" ] && [ -z "$(find "$(realpath "$(command -v rt || echo crates.txt)")" crates.txt crates/*/src crates/*/specs crates/*/proofs -newer "$1" -print -quit)" ]
 }
 
 # proving WHAT: says that this is done now, which may take long, or that it cannot be done here.

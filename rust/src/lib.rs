@@ -1,5 +1,5 @@
 //! Hurdlesong for Rust: haplotype networks, proved. The functions are in `libhurdlesong_c.a`
-//! (x86-64 Linux), which `scripts/archive.sh` makes; this crate lends them memory without `unsafe`
+//! (x86-64-v2, Linux), which `scripts/archive.sh` makes; this crate lends them memory without `unsafe`
 //! for its users.
 //!
 //! Each function answers for every input, however damaged, never panics, and alters nothing but

@@ -1,6 +1,5 @@
 // The corner of the link table, which is lent as a slice of links. The links are listed here in their order, written from here to the result,
-// and cleared. A function that names the table is proved by a walk of its steps, by hand: so they are few, and leave the work to functions
-// over plain numbers.
+// and cleared. The functions that name the table are few, and leave the work to functions over plain numbers.
 
 ghost use Rattle.std.specs.Prelude.{◌≡◌, ◌+◌, ◌*◌, ◌≤◌, length, replicate};
 ghost use Rattle.rules.specs.Result.{link_size};

@@ -1,4 +1,4 @@
-// Files by a name of bytes, and a line on standard error where one cannot be opened.
+// Files by a name, whose bytes must be text, and a line on standard error where one cannot be opened.
 
 ghost use Rattle.std.specs.Prelude.{IsSome, IsTrue, ◌≡◌, ◌∷◌, [], ◌++◌, ℕ, List, codes};
 ghost use Rattle.std.specs.Io.KnownBytes.{Appends, Keeps};

@@ -1,5 +1,5 @@
 // The room of the streams: all that the programs do with the world outside. Memory is filled from a reader (`reading`), bytes and numbers
-// go to a writer (`printing`), arguments are bytes (`arguments`), and a file is opened by a name of bytes (`files`). Nothing here is on the
+// go to a writer (`printing`), arguments are bytes (`arguments`), and a file is opened by a name (`files`). Nothing here is on the
 // heap, and nothing here knows of jobs or texts.
 
 #![tactic(auto)]
