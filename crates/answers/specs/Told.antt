@@ -1,7 +1,6 @@
 -- What is told of an answer: its number, its place and the bytes used.
 use Rattle.std.specs.Prelude.{◌≡◌, cond, ℕ, eqb}
-use Rattle.rules.specs.Answers.{number, place, used}
-use Rattle.rules.specs.declared.Answer.{Answer}
+use Rattle.rules.specs.Answers.{number, place, used, Answer}
 use Rattle.answers.specs.declared.Told.{Told}
 
 pub record Tells (n at bytes : ℕ) (r : Told) : Type 0 where

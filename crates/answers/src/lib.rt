@@ -5,9 +5,9 @@
 ghost use Rattle.std.specs.Prelude.{◌≡◌};
 ghost use Rattle.answers.specs.Told.{Tells, ToldOf, first_of};
 
-use rules::Answer;
+use rules::{Answer, Refusal};
 
-// Laid out as in C, since C programs are told of an answer so.
+// Numbers, laid out as in C, since C programs are told of an answer so.
 #[repr(C)]
 #[derive(Clone, Copy)]
 pub struct Told {
@@ -31,21 +31,21 @@ pub fn tell(answer: Answer) -> Told
     ensures { ToldOf answer result }
 {
     match answer {
-        Answer::Done { used } => Told {
+        Ok(used) => Told {
             number: 0,
             place: 0,
             used,
         },
-        Answer::Area => refusal(1, 0),
-        Answer::Head => refusal(2, 0),
-        Answer::Rows => refusal(3, 0),
-        Answer::Width => refusal(4, 2),
-        Answer::Layout { place } => refusal(5, place),
-        Answer::Weight { place } => refusal(6, place),
-        Answer::State { place } => refusal(7, place),
-        Answer::Types { place } => refusal(8, place),
-        Answer::Room { place } => refusal(9, place),
-        Answer::Split => refusal(10, 0),
+        Err(Refusal::Area) => refusal(1, 0),
+        Err(Refusal::Head) => refusal(2, 0),
+        Err(Refusal::Rows) => refusal(3, 0),
+        Err(Refusal::Width) => refusal(4, 2),
+        Err(Refusal::Layout { place }) => refusal(5, place),
+        Err(Refusal::Weight { place }) => refusal(6, place),
+        Err(Refusal::State { place }) => refusal(7, place),
+        Err(Refusal::Types { place }) => refusal(8, place),
+        Err(Refusal::Room { place }) => refusal(9, place),
+        Err(Refusal::Split) => refusal(10, 0),
     }
 }
 
@@ -53,9 +53,5 @@ pub fn tell(answer: Answer) -> Told
 pub fn first_of(a: Answer, b: Answer) -> Answer
     ensures { result ≡ first_of a b }
 {
-    let told = tell(a);
-    if told.number != 0 {
-        return a;
-    }
-    b
+    a.and(b)
 }

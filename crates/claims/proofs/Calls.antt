@@ -1,4 +1,5 @@
 -- The claims of the definitions, said of a call: its answer and the bytes that it leaves.
+use Rattle.std.specs.Prelude.{Ok, Err}
 use mathlib.Core.Path.{◌≡◌, refl, sym, ap, ◌∙◌}
 use mathlib.Core.Logic.{◌≢◌}
 use mathlib.Core.List.{◌++◌}
@@ -6,12 +7,11 @@ use Prim.Native.Nat.{ℕ, ◌+◌, ◌-◌, ◌≤◌}
 use native.Mathlib.Omega.{arith}
 use lib.ListN.{length, get_or, replicate}
 use lib.Seq.{get_or-append-add}
-use Rattle.rules.specs.Answers.{number, used}
+use Rattle.rules.specs.Answers.{number, used, Answer}
 use Rattle.rules.specs.Job.{Bytes, width}
 use Rattle.rules.specs.Lent.{Lent}
 use Rattle.rules.specs.Call.{Verdict, refused, found, verdict, written, answer, result_after, links_after}
-use Rattle.rules.specs.declared.Answer.{Answer}
-use Rattle.rules.specs.declared.Answer.TheVariants.{Done, Area, Head, Rows, Width, Layout, Weight, State, Types, Room, Split}
+use Rattle.rules.specs.declared.Refusal.TheVariants.{Area, Head, Rows, Width, Layout, Weight, State, Types, Room, Split}
 use Rattle.readback.specs.ReadBack.{network_back}
 use Rattle.readback.proofs.Found.{answered, verdict_numbered}
 use Rattle.readback.proofs.Result.{read_result}
@@ -61,17 +61,17 @@ unfolding answer
 used-written lent job = go (verdict lent job) refl
   where
     refusal_uses : (a : Answer) → number a ≢ 0 → used a ≡ 0
-    refusal_uses (Done bytes) n = absurd (n refl)
-    refusal_uses Area n = refl
-    refusal_uses Head n = refl
-    refusal_uses Rows n = refl
-    refusal_uses Width n = refl
-    refusal_uses (Layout place) n = refl
-    refusal_uses (Weight place) n = refl
-    refusal_uses (State place) n = refl
-    refusal_uses (Types place) n = refl
-    refusal_uses (Room place) n = refl
-    refusal_uses Split n = refl
+    refusal_uses (Ok bytes) n = absurd (n refl)
+    refusal_uses (Err Area) n = refl
+    refusal_uses (Err Head) n = refl
+    refusal_uses (Err Rows) n = refl
+    refusal_uses (Err Width) n = refl
+    refusal_uses (Err (Layout place)) n = refl
+    refusal_uses (Err (Weight place)) n = refl
+    refusal_uses (Err (State place)) n = refl
+    refusal_uses (Err (Types place)) n = refl
+    refusal_uses (Err (Room place)) n = refl
+    refusal_uses (Err Split) n = refl
 
     go : (v : Verdict) → verdict lent job ≡ v → length (written (width job) (verdict lent job)) ≡ used (answer lent job)
     go (refused a) e = rw e (sym (refusal_uses a (verdict_numbered lent job a e)))

@@ -1,5 +1,6 @@
 -- What is claimed, in one page: of the rules (docs/RULES.md), of the public functions' contracts, and of the bytes that a call leaves. Each
 -- claim is stated in the words of specs/ and proved by what it cites.
+use Rattle.std.specs.Prelude.{Err, Ok}
 use mathlib.Core.Path.{◌≡◌, sym, ◌∙◌}
 use mathlib.Core.Logic.{◌↔◌, ◌≢◌}
 use mathlib.Core.List.{List, []}
@@ -8,7 +9,7 @@ use lib.Dec.{T}
 use lib.ListN.{length, take, drop, get_or, replicate}
 use Rattle.graph.specs.Below.{table}
 use Rattle.graph.proofs.Below.{in_at}
-use Rattle.rules.specs.Answers.{number, used, passed}
+use Rattle.rules.specs.Answers.{number, used, passed, Answer}
 use Rattle.rules.specs.Job.{Bytes, width, epsilon, weights, job_rows, checked}
 use Rattle.rules.specs.Lent.{Lent}
 use Rattle.rules.specs.Types.{node_at, sampled}
@@ -20,8 +21,7 @@ use Rattle.rules.specs.Lookup.{lookup}
 use Rattle.rules.specs.Call.{found, verdict, answer, padded, result_after}
 use Rattle.rules.specs.Text.{digits, decimal, printed}
 use Rattle.rules.specs.Cases.{all_hold, cases}
-use Rattle.rules.specs.declared.Answer.{Answer}
-use Rattle.rules.specs.declared.Answer.TheVariants.{Split}
+use Rattle.rules.specs.declared.Refusal.TheVariants.{Split}
 use Rattle.rules.proofs.Table as table
 use Rattle.rules.proofs.Ends as ends
 use Rattle.rules.proofs.Decimals as decimals
@@ -30,9 +30,8 @@ use Rattle.readback.proofs.Found as network
 use Rattle.readback.proofs.Result as result
 use Rattle.answers.specs.Told.{Tells}
 use Rattle.answers.specs.declared.Told.{Told}
-use Rattle.text.specs.Printed.{ToldText, text_room, text_of, printed_bytes, RefusalLeft, TextLeft, BriefLeft}
-use Rattle.text.specs.declared.Printed.{Printed}
-use Rattle.text.specs.declared.Printed.TheVariants.{Done, Short}
+use Rattle.text.specs.Printed.{ToldText, text_room, text_of, printed_bytes, RefusalLeft, TextLeft, BriefLeft, Printed}
+use Rattle.text.specs.declared.Unprinted.TheVariants.{Short}
 use Rattle.text.proofs.Once as text
 use Rattle.service.specs.Served.{AnsweredJob, printed_in, Shown}
 use Rattle.service.proofs.Text as service
@@ -41,8 +40,7 @@ use Rattle.lookup.specs.declared.Place.{Place}
 use Rattle.lookup.proofs.Places as places
 use Rattle.hurdlesong_c.specs.Interface.{TextTold}
 use Rattle.hurdlesong_c.proofs.Interface as interface
-use Rattle.fasta.specs.Answers.{conversion_number, conversion_used}
-use Rattle.fasta.specs.declared.conversion.Conversion.{Conversion}
+use Rattle.fasta.specs.Answers.{Conversion, conversion_number, conversion_used}
 use Rattle.fasta.specs.Sequences.{sequences, sequence}
 use Rattle.fasta.specs.Converted.{Converted}
 use Rattle.claims.specs.Drawing.{Drawing}
@@ -90,7 +88,7 @@ module _ (job : Bytes) (before after : Memory) (r : Answer) (call : Calls job be
   pub accepted : (number r ≡ 0) ↔ ((a : Answer) → ¬ Condition (lengths_of before) job a)
   accepted = rw call.served.answered (refusals.accepted (lengths_of before) job)
 
-  pub never_split : r ≢ Split
+  pub never_split : r ≢ (Err Split)
   never_split = rw call.served.answered (refusals.never_split-answer (lengths_of before) job)
 
   -- ── RULES 19.3: what the bytes left in the result draw ──
@@ -162,10 +160,10 @@ printed-text = service.text-is
 
 -- So it is in little memory: all of it or, where it lacks room, nothing. It never lacks room where there is room for every text.
 module _ (lent : Lent) (job : Bytes) (n : ℕ) (out : Bytes) (r : Printed) (brief : BriefLeft job (result_after lent job) (answer lent job) n out r) where
-  pub brief_whole : r ≢ Short → (r ≡ Done (length (printed lent job))) × (out ≡ padded n (printed lent job))
+  pub brief_whole : r ≢ (Err Short) → (r ≡ (Ok (length (printed lent job)))) × (out ≡ padded n (printed lent job))
   brief_whole = service.brief_whole lent job brief
 
-  pub brief_roomy : text_room ≤ n → r ≢ Short
+  pub brief_roomy : text_room ≤ n → r ≢ (Err Short)
   brief_roomy = service.brief_roomy lent job brief
 
 -- What `text` prints of what a call leaves is the text of the rules.

@@ -1,4 +1,5 @@
 -- The claims about a job made of a FASTA text, as its caller finds it.
+use Rattle.std.specs.Prelude.{Err}
 use mathlib.Core.Path.{◌≡◌, refl}
 use mathlib.Core.Logic.{inl, inr}
 use mathlib.Core.Bool.{Bool, true, false, cond}
@@ -8,16 +9,14 @@ use native.Mathlib.Omega.{arith}
 use lib.Dec.{eqb}
 use lib.ListN.{length, take, get_or, replicate}
 use Rattle.graph.specs.Below.{table}
-use Rattle.rules.specs.Answers.{number, when◌refuse◌else◌, passed}
+use Rattle.rules.specs.Answers.{number, when◌refuse◌else◌, passed, Answer}
 use Rattle.rules.specs.Job.{Bytes, epsilon, weights, job_rows, checked}
 use Rattle.rules.specs.Lent.{Lent, area_short}
 use Rattle.rules.specs.Types.{has_too_many, row129}
 use Rattle.rules.specs.Run.{Outcome, settled, full, phase_two, split}
 use Rattle.rules.specs.Call.{Verdict, refused, found, ◌then◌, ended, outcome, verdict, answer, answer_to}
-use Rattle.rules.specs.declared.Answer.{Answer}
-use Rattle.rules.specs.declared.Answer.TheVariants.{Area, Types, Split}
-use Rattle.fasta.specs.Answers.{conversion_number, conversion_used, refuses}
-use Rattle.fasta.specs.declared.conversion.Conversion.{Conversion}
+use Rattle.rules.specs.declared.Refusal.TheVariants.{Area, Types, Split}
+use Rattle.fasta.specs.Answers.{Conversion, conversion_number, conversion_used, refuses}
 use Rattle.fasta.specs.Sequences.{sequences, sequence}
 use Rattle.fasta.proofs.alignment.Readable.{readable}
 use Rattle.fasta.specs.Block.{job_of}
@@ -45,7 +44,7 @@ module _ (m : ℕ) where
   free_ended ws (full round) = inr (omega arith)
   free_ended ws (settled run) = go (split (phase_two ws run))
     where
-      go : (t : Bool) → Free (cond t (refused Split) (found (phase_two ws run)))
+      go : (t : Bool) → Free (cond t (refused (Err Split)) (found (phase_two ws run)))
       go true = inr (omega arith)
       go false = inl (omega arith)
 
@@ -53,8 +52,8 @@ pub not_for_form : (lent : Lent) (job : Bytes) → checked job ≡ passed → No
 unfolding answer verdict
 not_for_form lent job e =
     rw e
-    (free_then _ (area_short lent) Area _ (inl (omega arith))
-    (free_then _ (has_too_many (job_rows job)) (Types (row129 (job_rows job))) _ (inr (omega arith)) (free_ended _ (weights job) (outcome job))))
+    (free_then _ (area_short lent) (Err Area) _ (inl (omega arith))
+    (free_then _ (has_too_many (job_rows job)) (Err (Types (row129 (job_rows job)))) _ (inr (omega arith)) (free_ended _ (weights job) (outcome job))))
 
 -- ── A job that was made ──
 

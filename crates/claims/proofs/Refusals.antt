@@ -1,5 +1,6 @@
 -- A refusal is the answer exactly if its condition holds and no earlier one does. And SPLIT is never the answer.
 -- The proof goes down the tests in the order they are tried, and keeps what is known of the rows of the table passed so far.
+use Rattle.std.specs.Prelude.{Ok, Err}
 use mathlib.Core.Path.{◌≡◌, refl, sym, ap, ◌∙◌}
 use mathlib.Core.Logic.{◌⊎◌, inl, inr, ⊎_elim, ⊎_map, ◌↔◌, ◌≢◌}
 use mathlib.Core.Bool.{Bool, true, false, not, cond, ◌||◌, false≢true}
@@ -12,15 +13,14 @@ use lib.ListN.{length, get_or}
 use borrow.Author.Tests.{ltb-true, lt-ltb, eqb-true, eqb-false, eq-eqb, ne_eqb}
 use Rattle.graph.specs.Below.{first}
 use Rattle.graph.proofs.Below.{or_true, is_false, first-hits, first-before, first-is}
-use Rattle.rules.specs.Answers.{number, place, when◌refuse◌else◌, passed}
+use Rattle.rules.specs.Answers.{number, place, when◌refuse◌else◌, passed, Answer}
 use Rattle.rules.specs.Job.{Bytes, weights_offset, word, rows, width, weight_at, state_at, outside, states_offset, whole_length, bad_weight, bad_state, checked, Row, weights, job_rows}
 use Rattle.rules.specs.Lent.{Lent, area_short}
 use Rattle.rules.specs.Types.{sampled, has_too_many, row129}
 use Rattle.rules.specs.Purge.{Run}
 use Rattle.rules.specs.Run.{Outcome, settled, full}
 use Rattle.rules.specs.Call.{Verdict, refused, answer_to, ◌then◌, ended, outcome, verdict, answer}
-use Rattle.rules.specs.declared.Answer.{Answer}
-use Rattle.rules.specs.declared.Answer.TheVariants.{Done, Area, Head, Rows, Width, Layout, Weight, State, Types, Room, Split}
+use Rattle.rules.specs.declared.Refusal.TheVariants.{Area, Head, Rows, Width, Layout, Weight, State, Types, Room, Split}
 use Rattle.rules.proofs.Ends.{phase_same}
 use Rattle.rules.proofs.Types.{is-first, Nth, too_many, too_many-at, length-sampled, few-sampled}
 use Rattle.readback.specs.Runs.{Runs}
@@ -32,23 +32,23 @@ use Rattle.claims.proofs.Drawing.{network-joined}
 
 -- The refusals in the order they are tried, each at its number, with a place.
 abbrev refusals : ℕ → List Answer
-refusals p = Done 0 ∷ Area ∷ Head ∷ Rows ∷ Width ∷ Layout p ∷ Weight p ∷ State p ∷ Types p ∷ Room p ∷ Split ∷ []
+refusals p = (Ok 0) ∷ (Err Area) ∷ (Err Head) ∷ (Err Rows) ∷ (Err Width) ∷ (Err (Layout p)) ∷ (Err (Weight p)) ∷ (Err (State p)) ∷ (Err (Types p)) ∷ (Err (Room p)) ∷ (Err Split) ∷ []
 
 abbrev refusal : ℕ → ℕ → Answer
-refusal k p = get_or (refusals p) k (Done 0)
+refusal k p = get_or (refusals p) k (Ok 0)
 
 refusal_is : (a : Answer) → number a ≢ 0 → a ≡ refusal (number a) (place a)
-refusal_is (Done used) h = absurd (h refl)
-refusal_is Area h = refl
-refusal_is Head h = refl
-refusal_is Rows h = refl
-refusal_is Width h = refl
-refusal_is (Layout p) h = refl
-refusal_is (Weight p) h = refl
-refusal_is (State p) h = refl
-refusal_is (Types p) h = refl
-refusal_is (Room p) h = refl
-refusal_is Split h = refl
+refusal_is (Ok used) h = absurd (h refl)
+refusal_is (Err Area) h = refl
+refusal_is (Err Head) h = refl
+refusal_is (Err Rows) h = refl
+refusal_is (Err Width) h = refl
+refusal_is (Err (Layout p)) h = refl
+refusal_is (Err (Weight p)) h = refl
+refusal_is (Err (State p)) h = refl
+refusal_is (Err (Types p)) h = refl
+refusal_is (Err (Room p)) h = refl
+refusal_is (Err Split) h = refl
 
 -- ── Tests and what they test ──
 
@@ -118,7 +118,7 @@ module _ (lent : Lent) (job : Bytes) where
   }
 
   -- Nothing is left to try.
-  ends : (l : ℕ) (used : ℕ) → Right l l (Done used)
+  ends : (l : ℕ) (used : ℕ) → Right l l (Ok used)
   ends l used = record { holds = λ z. absurd (z refl); from = λ z. absurd (z refl); earlier = λ b h g. absurd (let z : ⊥ = omega arith in z) }
 
   -- The next test, which passes exactly where its refusal is given; a refusal of its number can be given with no other place.
@@ -151,22 +151,22 @@ module _ (lent : Lent) (job : Bytes) where
 
   -- ── 1, and 2 to 7 ──
 
-  area : Right 1 2 (when area_short lent refuse Area else passed)
+  area : Right 1 2 (when area_short lent refuse Err Area else passed)
   unfolding area_short
   area =
-      tries 1 2 (area_short lent) Area passed (omega arith) refl (omega arith)
+      tries 1 2 (area_short lent) (Err Area) passed (omega arith) refl (omega arith)
       (or_tests (or_tests (or_tests (ltb_tests _ _) (ltb_tests _ _)) (ltb_tests _ _)) (ltb_tests _ _)) (λ p g. g) (λ e. ends 2 0)
 
   -- The four tests of LAYOUT: each is made where those before it passed.
   layout : (l : ℕ) (next : Answer) → 5 < l → Right 6 l next → Right 5 l (
-      when not (eqb (word job 6) weights_offset) refuse Layout 6 else
-      when not (eqb (word job 8) (states_offset job)) refuse Layout 8 else
-      when not (eqb (word job 10) (whole_length job)) refuse Layout 10 else
-      when not (eqb (length job) (whole_length job)) refuse Layout 12 else next)
+      when not (eqb (word job 6) weights_offset) refuse Err (Layout 6) else
+      when not (eqb (word job 8) (states_offset job)) refuse Err (Layout 8) else
+      when not (eqb (word job 10) (whole_length job)) refuse Err (Layout 10) else
+      when not (eqb (length job) (whole_length job)) refuse Err (Layout 12) else next)
   layout l next h r = go _ _ _ _ refl refl refl refl
     where
-      refuses : (p : ℕ) → WrongField job p → Right 5 l (Layout p)
-      refuses p w = stops 5 l (Layout p) (omega arith) refl h w
+      refuses : (p : ℕ) → WrongField job p → Right 5 l (Err (Layout p))
+      refuses p w = stops 5 l (Err (Layout p)) (omega arith) refl h w
 
       fits : word job 6 ≡ weights_offset → word job 8 ≡ states_offset job → word job 10 ≡ whole_length job → length job ≡ whole_length job → (p : ℕ) → ¬ WrongField job p
       fits a b c d p (weights_offset_wrong n) = n a
@@ -175,7 +175,7 @@ module _ (lent : Lent) (job : Bytes) where
       fits a b c d p (bytes_lent e f g n) = n d
 
       go : (s t x y : Bool) → eqb (word job 6) weights_offset ≡ s → eqb (word job 8) (states_offset job) ≡ t → eqb (word job 10) (whole_length job) ≡ x →
-          eqb (length job) (whole_length job) ≡ y → Right 5 l (when not s refuse Layout 6 else when not t refuse Layout 8 else when not x refuse Layout 10 else when not y refuse Layout 12 else next)
+          eqb (length job) (whole_length job) ≡ y → Right 5 l (when not s refuse Err (Layout 6) else when not t refuse Err (Layout 8) else when not x refuse Err (Layout 10) else when not y refuse Err (Layout 12) else next)
       go false t x y a b c d = refuses 6 (weights_offset_wrong (eqb-false _ _ a))
       go true false x y a b c d = refuses 8 (states_offset_wrong (eqb-true _ _ a) (eqb-false _ _ b))
       go true true false y a b c d = refuses 10 (whole_length_wrong (eqb-true _ _ a) (eqb-true _ _ b) (eqb-false _ _ c))
@@ -185,12 +185,12 @@ module _ (lent : Lent) (job : Bytes) where
   checks : Right 2 8 (checked job)
   unfolding checked bad_weight bad_state
   checks =
-      tries 2 8 _ Head _ (omega arith) refl (omega arith) (ltb_tests _ _) (λ p g. g)
-      (λ e. tries 3 8 _ Rows _ (omega arith) refl (omega arith) (or_tests (zero_tests _) (ltb_tests _ _)) (λ p g. g)
-      (λ e. tries 4 8 _ Width _ (omega arith) refl (omega arith) (or_tests (zero_tests _) (ltb_tests _ _)) (λ p g. g)
+      tries 2 8 _ (Err Head) _ (omega arith) refl (omega arith) (ltb_tests _ _) (λ p g. g)
+      (λ e. tries 3 8 _ (Err Rows) _ (omega arith) refl (omega arith) (or_tests (zero_tests _) (ltb_tests _ _)) (λ p g. g)
+      (λ e. tries 4 8 _ (Err Width) _ (omega arith) refl (omega arith) (or_tests (zero_tests _) (ltb_tests _ _)) (λ p g. g)
       (λ e. layout 8 _ (omega arith)
-      (tries 6 8 _ (Weight (bad_weight job)) _ (omega arith) refl (omega arith) (first_tests (width job) _ _ weight) (first_one (width job) _ _ weight)
-      (λ e. tries 7 8 _ (State (bad_state job)) _ (omega arith) refl (omega arith) (first_tests (rows job * width job) _ _ state) (first_one (rows job * width job) _ _ state)
+      (tries 6 8 _ (Err (Weight (bad_weight job))) _ (omega arith) refl (omega arith) (first_tests (width job) _ _ weight) (first_one (width job) _ _ weight)
+      (λ e. tries 7 8 _ (Err (State (bad_state job))) _ (omega arith) refl (omega arith) (first_tests (rows job * width job) _ _ state) (first_one (rows job * width job) _ _ state)
       (λ e. ends 8 0))))))
     where
       weight : (c : ℕ) → Tests (outside 1 1000 (weight_at job c)) ((weight_at job c ≡ 0) ⊎ (1000 < weight_at job c))
@@ -205,7 +205,7 @@ module _ (lent : Lent) (job : Bytes) where
   rs = job_rows job
 
   abbrev types : Answer
-  types = when has_too_many rs refuse Types (row129 rs) else passed
+  types = when has_too_many rs refuse Err (Types (row129 rs)) else passed
 
   type-nth : (p : ℕ) → Nth rs 128 p ↔ Type129 rs p
   type-nth p = (
@@ -215,7 +215,7 @@ module _ (lent : Lent) (job : Bytes) where
 
   types-right : Right 8 9 types
   types-right =
-      tries 8 9 (has_too_many rs) (Types (row129 rs)) passed (omega arith) refl (omega arith) is
+      tries 8 9 (has_too_many rs) (Err (Types (row129 rs))) passed (omega arith) refl (omega arith) is
       (λ p t. is.0 (too_many-at rs p ((type-nth p).1 t)).0) (λ e. ends 9 0)
     where
       is : Tests (has_too_many rs) (Type129 rs (row129 rs))
@@ -232,7 +232,7 @@ module _ (lent : Lent) (job : Bytes) where
       differ e = let z : ◌≡◌ {A = ℕ} 0 1 = cc in omega arith
 
       go : (end : Outcome) → Runs job end → Right 9 11 (answer_to (width job) (ended ws end))
-      go (full round) r = stops 9 11 (Room round) (omega arith) refl (omega arith) r
+      go (full round) r = stops 9 11 (Err (Room round)) (omega arith) refl (omega arith) r
       go (settled run) r =
           passes 9 11 _ (omega arith) (λ p g. differ (phase_same r g))
           (passes 10 11 _ (omega arith) (λ p s. s.2 (network-joined ws s.0)) (rw (never_split-network ws run) (ends 11 _)))
@@ -243,36 +243,36 @@ module _ (lent : Lent) (job : Bytes) where
       follows 1 2 (width job) _ _ (omega arith) (omega arith) area
       (λ z. follows 2 8 (width job) _ _ (omega arith) (omega arith) checks
       (λ z. follows 8 9 (width job) _ _ (omega arith) (omega arith) types-right
-      (λ z. ran (few-sampled rs (unrefused (has_too_many rs) (Types (row129 rs)) (omega arith) z)))))
+      (λ z. ran (few-sampled rs (unrefused (has_too_many rs) (Err (Types (row129 rs))) (omega arith) z)))))
 
   -- ── What follows ──
 
   given-number : (a : Answer) → Given a → (1 ≤ number a) × (number a < 11)
-  given-number (Done used) g = absurd g
-  given-number Area g = omega arith
-  given-number Head g = omega arith
-  given-number Rows g = omega arith
-  given-number Width g = omega arith
-  given-number (Layout p) g = omega arith
-  given-number (Weight p) g = omega arith
-  given-number (State p) g = omega arith
-  given-number (Types p) g = omega arith
-  given-number (Room p) g = omega arith
-  given-number Split g = omega arith
+  given-number (Ok used) g = absurd g
+  given-number (Err Area) g = omega arith
+  given-number (Err Head) g = omega arith
+  given-number (Err Rows) g = omega arith
+  given-number (Err Width) g = omega arith
+  given-number (Err (Layout p)) g = omega arith
+  given-number (Err (Weight p)) g = omega arith
+  given-number (Err (State p)) g = omega arith
+  given-number (Err (Types p)) g = omega arith
+  given-number (Err (Room p)) g = omega arith
+  given-number (Err Split) g = omega arith
 
   -- A refusal's condition holds with one place at most.
   one_place : (a : Answer) (q : ℕ) → Given a → Given (refusal (number a) q) → a ≡ refusal (number a) q
-  one_place (Done used) q g h = absurd g
-  one_place Area q g h = refl
-  one_place Head q g h = refl
-  one_place Rows q g h = refl
-  one_place Width q g h = refl
-  one_place (Layout p) q g h = ap Layout (wrong_field_lem job g ∙ sym (wrong_field_lem job h))
-  one_place (Weight p) q g h = ap Weight (first-same p q g h)
-  one_place (State p) q g h = ap State (first-same p q g h)
-  one_place (Types p) q g h = ap Types (sym (too_many-at rs p ((type-nth p).1 g)).1 ∙ (too_many-at rs q ((type-nth q).1 h)).1)
-  one_place (Room p) q g h = ap Room (let e = phase_same g h in cc)
-  one_place Split q g h = refl
+  one_place (Ok used) q g h = absurd g
+  one_place (Err Area) q g h = refl
+  one_place (Err Head) q g h = refl
+  one_place (Err Rows) q g h = refl
+  one_place (Err Width) q g h = refl
+  one_place (Err (Layout p)) q g h = ap (λ (x : ℕ). Err (Layout x)) (wrong_field_lem job g ∙ sym (wrong_field_lem job h))
+  one_place (Err (Weight p)) q g h = ap (λ (x : ℕ). Err (Weight x)) (first-same p q g h)
+  one_place (Err (State p)) q g h = ap (λ (x : ℕ). Err (State x)) (first-same p q g h)
+  one_place (Err (Types p)) q g h = ap (λ (x : ℕ). Err (Types x)) (sym (too_many-at rs p ((type-nth p).1 g)).1 ∙ (too_many-at rs q ((type-nth q).1 h)).1)
+  one_place (Err (Room p)) q g h = ap (λ (x : ℕ). Err (Room x)) (let e = phase_same g h in cc)
+  one_place (Err Split) q g h = refl
 
   -- No refusal is given exactly if no condition holds.
   pub accepted : (number (answer lent job) ≡ 0) ↔ ((a : Answer) → ¬ Condition lent job a)
@@ -313,22 +313,22 @@ module _ (lent : Lent) (job : Bytes) where
               f ∙ sym (one_place a (place r) g (rw f at (right.holds is-refusal)))
 
   -- SPLIT is never the answer.
-  pub never_split-answer : answer lent job ≢ Split
-  never_split-answer e = let s = ((refused_exactly Split (λ z. omega arith)).0 e).0 in s.2 (network-joined ws s.0)
+  pub never_split-answer : answer lent job ≢ (Err Split)
+  never_split-answer e = let s = ((refused_exactly (Err Split) (λ z. omega arith)).0 e).0 in s.2 (network-joined ws s.0)
 
 -- The order in which the refusals are tried is that of their numbers.
 order_is : (a : Answer) → order a ≡ number a
-order_is (Done used) = refl
-order_is Area = refl
-order_is Head = refl
-order_is Rows = refl
-order_is Width = refl
-order_is (Layout place) = refl
-order_is (Weight column) = refl
-order_is (State place) = refl
-order_is (Types row) = refl
-order_is (Room round) = refl
-order_is Split = refl
+order_is (Ok used) = refl
+order_is (Err Area) = refl
+order_is (Err Head) = refl
+order_is (Err Rows) = refl
+order_is (Err Width) = refl
+order_is (Err (Layout place)) = refl
+order_is (Err (Weight column)) = refl
+order_is (Err (State place)) = refl
+order_is (Err (Types row)) = refl
+order_is (Err (Room round)) = refl
+order_is (Err Split) = refl
 
 pub given_in_turn : (lent : Lent) (job : Bytes) (a : Answer) → number a ≢ 0 → (answer lent job ≡ a) ↔ Due lent job a
 given_in_turn lent job a n =

@@ -1,13 +1,13 @@
 -- RULES 19.2, the second demand: the table of RULES 4.3 as plain statements, with the numbers written out. proofs/Refusals.antt shows that
 -- each refusal is given in its turn and never else.
-use Rattle.std.specs.Prelude.{◌≡◌, ◌⊎◌, ◌≢◌, List, ℕ, ◌+◌, ◌*◌, ◌<◌, length, take}
+use Rattle.std.specs.Prelude.{◌≡◌, ◌⊎◌, ◌≢◌, List, ℕ, ◌+◌, ◌*◌, ◌<◌, length, take, Ok, Err}
 use Rattle.rules.specs.Job.{Bytes, Row, word, rows, width, weight_at, weights, state_at, job_rows}
 use Rattle.rules.specs.Lent.{Lent}
 use Rattle.rules.specs.Types.{row_at, sampled}
 use Rattle.rules.specs.Purge.{Run}
 use Rattle.rules.specs.Run.{settled, full, phase_two}
-use Rattle.rules.specs.declared.Answer.{Answer}
-use Rattle.rules.specs.declared.Answer.TheVariants.{Done, Area, Head, Rows, Width, Layout, Weight, State, Types, Room, Split}
+use Rattle.rules.specs.Answers.{Answer}
+use Rattle.rules.specs.declared.Refusal.TheVariants.{Area, Head, Rows, Width, Layout, Weight, State, Types, Room, Split}
 use Rattle.readback.specs.Runs.{Runs}
 use Rattle.claims.specs.Drawing.{JoinsAll}
 
@@ -36,31 +36,31 @@ pub record Type129 (rs : List Row) (p : ℕ) : Type 0 where
 
 -- RULES 4.3: the case of each refusal.
 abbrev pub Condition : Lent → Bytes → Answer → Type 0
-Condition lent job (Done used) = ⊥
-Condition lent job Area = (((lent.result < 57680) ⊎ (lent.states < 8192)) ⊎ (lent.distances < 16384)) ⊎ (lent.links < 8128)
-Condition lent job Head = length job < 12
-Condition lent job Rows = (rows job ≡ 0) ⊎ (256 < rows job)
-Condition lent job Width = (width job ≡ 0) ⊎ (64 < width job)
-Condition lent job (Layout place) = WrongField job place
-Condition lent job (Weight column) = FirstWhere (width job) (λ c. (weight_at job c ≡ 0) ⊎ (1000 < weight_at job c)) column
-Condition lent job (State place) = FirstWhere (rows job * width job) (λ i. Outside 33 126 (state_at job i)) place
-Condition lent job (Types row) = Type129 (job_rows job) row
-Condition lent job (Room round) = Runs job (full round)
-Condition lent job Split = (run : Run) × Runs job (settled run) × ¬ JoinsAll (phase_two (weights job) run)
+Condition lent job (Ok used) = ⊥
+Condition lent job (Err Area) = (((lent.result < 57680) ⊎ (lent.states < 8192)) ⊎ (lent.distances < 16384)) ⊎ (lent.links < 8128)
+Condition lent job (Err Head) = length job < 12
+Condition lent job (Err Rows) = (rows job ≡ 0) ⊎ (256 < rows job)
+Condition lent job (Err Width) = (width job ≡ 0) ⊎ (64 < width job)
+Condition lent job (Err (Layout place)) = WrongField job place
+Condition lent job (Err (Weight column)) = FirstWhere (width job) (λ c. (weight_at job c ≡ 0) ⊎ (1000 < weight_at job c)) column
+Condition lent job (Err (State place)) = FirstWhere (rows job * width job) (λ i. Outside 33 126 (state_at job i)) place
+Condition lent job (Err (Types row)) = Type129 (job_rows job) row
+Condition lent job (Err (Room round)) = Runs job (full round)
+Condition lent job (Err Split) = (run : Run) × Runs job (settled run) × ¬ JoinsAll (phase_two (weights job) run)
 
 -- RULES 4.2: the order in which they are tried.
 abbrev pub order : Answer → ℕ
-order (Done used) = 0
-order Area = 1
-order Head = 2
-order Rows = 3
-order Width = 4
-order (Layout place) = 5
-order (Weight column) = 6
-order (State place) = 7
-order (Types row) = 8
-order (Room round) = 9
-order Split = 10
+order (Ok used) = 0
+order (Err Area) = 1
+order (Err Head) = 2
+order (Err Rows) = 3
+order (Err Width) = 4
+order (Err (Layout place)) = 5
+order (Err (Weight column)) = 6
+order (Err (State place)) = 7
+order (Err (Types row)) = 8
+order (Err (Room round)) = 9
+order (Err Split) = 10
 
 -- RULES 4.2: a refusal's turn: its condition holds, and none that is tried before it does.
 abbrev pub Due : Lent → Bytes → Answer → Type 0

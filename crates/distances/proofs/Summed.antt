@@ -16,18 +16,17 @@ use Rattle.distances.specs.Area.{Weighed, stored_apart}
 
 module _ (ws : List ℕ) (states : Bytes) (i j : ℕ) where
   pub record Summed (c s : ℕ) : Type 0 where
-    pub passed : c ≤ 64
     pub so_far : s ≡ sum c (difference ws (stored_at states i) (stored_at states j))
     pub small : s ≤ 1000 * c
 
   pub none_summed : Summed 0 0
   unfolding sum
-  none_summed = record { passed = omega arith; so_far = refl; small = omega arith }
+  none_summed = record { so_far = refl; small = omega arith }
 
-  pub all_summed : Weighed ws → (c s : ℕ) → 64 ≤ c → Summed c s → s ≡ stored_apart ws states i j
+  pub all_summed : Weighed ws → {c s : ℕ} → c ≡ 64 → Summed c s → s ≡ stored_apart ws states i j
   unfolding distance
-  all_summed w c s h t =
-      let all : c ≡ length ws = omega (arith, t.passed, w.size) in
+  all_summed w {c} h t =
+      let all : c ≡ length ws = omega (arith, w.size) in
       rw all at t.so_far
 
   -- What character c counts is at most its weight.
@@ -43,7 +42,6 @@ module _ (ws : List ℕ) (states : Bytes) (i j : ℕ) where
   one_more {c} h t w =
       let few = cond-at-most (eqb (get_or states (64 * i + c) 0) (get_or states (64 * j + c) 0)) (get_or ws c 0) in
       record {
-        passed = omega arith;
         so_far = rw (sum_more, stored_at-state states i c h, stored_at-state states j c h) (ap (λ (k : ℕ). k + counts c) t.so_far);
         small = omega (arith, t.small, w.at_most c h);
       }

@@ -26,10 +26,8 @@ pub fn distance(states: &[u8], weights: &[u16], i: usize, j: usize) -> u16
     let a = ROW * i;
     let b = ROW * j;
     let mut sum = 0u16;
-    let mut c = 0;
-    while c < ROW {
+    for c in 0..ROW {
         sum += counted(states[a + c], states[b + c], weights[c]);
-        c += 1;
     }
     sum
 }
@@ -39,10 +37,8 @@ fn measure_one(states: &[u8], area: &mut [u16], weights: &[u16], j: usize)
     requires { Weighed weights.now × (j < most_types) × (row_size * j + row_size ≤ length states.now) × (distance_area ≤ length area.old) }
     ensures { CellsWritten (New j (j + 1)) (stored_apart weights.now states.now) area.old area.new }
 {
-    let mut i = 0;
-    while i < j {
+    for i in 0..j {
         area[LINE * i + j] = distance(states, weights, i, j);
-        i += 1;
     }
 }
 
@@ -51,9 +47,7 @@ pub fn measure(states: &[u8], area: &mut [u16], weights: &[u16], from: usize, to
     requires { Weighed weights.now × (to ≤ most_types) × (row_size * to ≤ length states.now) × (distance_area ≤ length area.old) }
     ensures { CellsWritten (New from to) (stored_apart weights.now states.now) area.old area.new }
 {
-    let mut j = from;
-    while j < to {
+    for j in from..to {
         measure_one(states, area, weights, j);
-        j += 1;
     }
 }

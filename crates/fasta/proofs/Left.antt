@@ -1,8 +1,8 @@
 -- What is left in the lent job, for each of the three ends of a call.
-use mathlib.Core.Path.{◌≡◌, refl, ◌∙◌}
-use mathlib.Core.Logic.{◌≢◌}
+use mathlib.Core.Path.{◌≡◌, refl, sym, ap, ◌∙◌}
 use mathlib.Core.Bool.{true, false}
 use mathlib.Core.List.{◌++◌}
+use Rattle.std.proofs.Common.{Ok, Err}
 use Prim.Native.Nat.{ℕ, ◌+◌, ◌*◌, ◌≤◌, ◌<◌}
 use native.Mathlib.Nat.{sub-zero}
 use native.Mathlib.Omega.{arith}
@@ -14,10 +14,10 @@ use Rattle.rules.proofs.Block.{length-words, length-parts}
 use Rattle.memory.specs.Placed.{placed, Follows}
 use Rattle.memory.proofs.Placed.{placed-padded}
 use Rattle.memory.proofs.Follows.{follows-once, follows_on}
-use Rattle.fasta.specs.Answers.{conversion_number, refuses}
-use Rattle.fasta.specs.declared.conversion.Conversion.{Conversion}
-use Rattle.fasta.specs.declared.conversion.Conversion.TheVariants.{Done, Short}
-use Rattle.fasta.proofs.conversion.Answers.{refuses-told, passes-told}
+use Rattle.fasta.specs.Answers.{Conversion, refuses}
+use Rattle.fasta.specs.declared.conversion.Fault.{Fault}
+use Rattle.fasta.specs.declared.conversion.Fault.TheVariants.{Short}
+use Rattle.fasta.proofs.conversion.Answers.{fault-refuses}
 use Rattle.fasta.specs.Sequences.{sequences, sequence, states}
 use Rattle.fasta.specs.Refusals.{checked_text}
 use Rattle.fasta.specs.Read.{JobSizeOf}
@@ -41,12 +41,12 @@ pub record Sized (text : Bytes) (n m : ℕ) : Type 0 where
   pub states_are : length (states text) ≡ n * m
   pub room : 12 + 2 * m + n * m ≤ job_room
 
-pub sized : {text : Bytes} {size : JobSize} → JobSizeOf text size → conversion_number size.answer ≡ 0 → Sized text size.rows size.width
-sized {text} {size} p e =
-    let f : refuses (checked_text text) ≡ false = rw p.answer_is at (passes-told size.answer refl e) in
+pub sized : {text : Bytes} {size : JobSize} → JobSizeOf text (Ok size) → Sized text size.rows size.width
+sized {text} {size} p =
+    let f : refuses (checked_text text) ≡ false = sym (ap refuses p.answer_is) in
     let r = readable text f in
-    let n : size.rows ≡ sequences text = p.rows_are ∙ rw f in
-    let m : size.width ≡ width_of text = p.width_is ∙ rw f in
+    let n : size.rows ≡ sequences text = p.rows_are in
+    let m : size.width ≡ width_of text = p.width_is in
     record {
       passes = f;
       rows_are = n;
@@ -71,20 +71,18 @@ module _ (text : Bytes) (e lent : ℕ) {zeros : Bytes} (z : zeros ≡ replicate 
   unfolding job_after
   zeros-left t r = record { answered = t; left = z ∙ rw (← t, r, sub-zero) }
 
-  pub short-left : lent < job_room → Converted text e lent zeros Short
+  pub short-left : lent < job_room → Converted text e lent zeros (Err Short)
   unfolding conversion_of
   short-left h = zeros-left (rw (lt-ltb lent job_room h)) refl
 
   module _ (h : job_room ≤ lent) where
-    pub refusal-left : {a : Conversion} → a ≡ checked_text text → conversion_number a ≢ 0 → Converted text e lent zeros a
+    pub refusal-left : {fault : Fault} → JobSizeOf text (Err fault) → Converted text e lent zeros (Err fault)
     unfolding conversion_of
-    refusal-left {a} a-is f =
-        let r = refuses-told a refl f in
-        zeros-left (a-is ∙ rw (le-ltb lent job_room h, ← a-is, r)) r
+    refusal-left {fault} p = zeros-left (p.answer_is ∙ rw (le-ltb lent job_room h, ← p.answer_is, fault-refuses fault)) (fault-refuses fault)
 
     -- The head, and each part behind the one before.
     pub job-left : {n m : ℕ} {b₁ b₂ b₃ : Bytes} → Sized text n m → b₁ ≡ placed zeros 0 (words (job_header n m e)) → b₂ ≡ placed b₁ 12 (weights_of m) →
-        b₃ ≡ placed b₂ (12 + 2 * m) (states text) → Converted text e lent b₃ (Done (12 + 2 * m + n * m))
+        b₃ ≡ placed b₂ (12 + 2 * m) (states text) → Converted text e lent b₃ (Ok (12 + 2 * m + n * m))
     unfolding conversion_of job_after
     job-left {n} {m} {b₁} {b₂} s head weights behind =
         let room : 0 ≤ length zeros = omega arith in

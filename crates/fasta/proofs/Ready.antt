@@ -1,8 +1,8 @@
 -- The lent job as its caller finds it: the block at its front, or a refusal.
 use mathlib.Core.Path.{◌≡◌, refl, sym, ap, ◌∙◌}
-use mathlib.Core.Logic.{◌≢◌}
 use mathlib.Core.Bool.{Bool, true, false, cond, true≢false, false≢true}
 use mathlib.Core.List.{[]}
+use Rattle.std.proofs.Common.{Ok, Err}
 use Prim.Native.Nat.{ℕ, ◌≤◌}
 use native.Mathlib.Omega.{arith}
 use native.Mathlib.Decide.{dec_le}
@@ -14,10 +14,9 @@ use Rattle.graph.proofs.Below.{is_false, is_true}
 use Rattle.rules.specs.Answers.{when◌refuse◌else◌}
 use Rattle.rules.specs.Job.{Bytes}
 use Rattle.rules.specs.Call.{padded}
-use Rattle.fasta.specs.Answers.{conversion_number, conversion_used, refuses}
-use Rattle.fasta.specs.declared.conversion.Conversion.{Conversion}
-use Rattle.fasta.specs.declared.conversion.Conversion.TheVariants.{Done, Short, Before, Byte, Wide, Many, Empty, Uneven}
-use Rattle.fasta.proofs.conversion.Answers.{passes-told}
+use Rattle.fasta.specs.Answers.{Conversion, conversion_number, conversion_used, refuses}
+use Rattle.fasta.specs.declared.conversion.Fault.{Fault}
+use Rattle.fasta.specs.declared.conversion.Fault.TheVariants.{Short, Before, Byte, Wide, Many, Empty, Uneven}
 use Rattle.fasta.specs.Refusals.{checked_text}
 use Rattle.fasta.specs.Block.{job_of}
 use Rattle.fasta.specs.Converted.{job_room, conversion_of, job_after, Converted}
@@ -33,7 +32,7 @@ pub enough : {text job : Bytes} {e lent : ℕ} {r : Conversion} → Converted te
 unfolding conversion_of
 enough {lent} {r} t z = elim (dec_le job_room lent) [
   | yes h ↦ h
-  | no h ↦ let short : r ≡ Short = t.answered ∙ rw (lt-ltb lent job_room (omega arith)) in absurd (omega (arith, z, ap conversion_number short))
+  | no h ↦ let short : r ≡ Err Short = t.answered ∙ rw (lt-ltb lent job_room (omega arith)) in absurd (omega (arith, z, ap conversion_number short))
 ]
 
 module _ {text job : Bytes} {e lent : ℕ} {r : Conversion} (t : Converted text e lent job r) (room : job_room ≤ lent) where
@@ -41,7 +40,7 @@ module _ {text job : Bytes} {e lent : ℕ} {r : Conversion} (t : Converted text 
   unfolding conversion_of
   refused-is m = t.answered ∙ rw (le-ltb lent job_room room, m)
 
-  made-is : refuses (checked_text text) ≡ false → r ≡ Done (length (job_of e text))
+  made-is : refuses (checked_text text) ≡ false → r ≡ Ok (length (job_of e text))
   unfolding conversion_of
   made-is m = t.answered ∙ rw (le-ltb lent job_room room, m)
 
@@ -52,33 +51,36 @@ module _ {text job : Bytes} {e lent : ℕ} {r : Conversion} (t : Converted text 
 
   pub ready : conversion_number r ≡ 0 → {used : ℕ} → used ≡ conversion_used r → Ready text e job used
   ready z u =
-      let m = is_false (refuses (checked_text text)) (λ m. true≢false (sym (ap refuses (refused-is m) ∙ m) ∙ passes-told r refl z)) in
+      let m = is_false (refuses (checked_text text)) (λ m. true≢false (sym (ap refuses (refused-is m) ∙ m) ∙ rw (z))) in
       let n = u ∙ ap conversion_used (made-is m) in
       record { passes = m; within = rw (left_is m, length-append) (omega (arith, n)); block = rw (left_is m, n) (take-append_seam (job_of e text) _) }
 
-  pub not-ready : conversion_number r ≢ 0 → (r ≡ checked_text text) × (refuses (checked_text text) ≡ true)
+  pub not-ready : refuses r ≡ true → (r ≡ checked_text text) × (refuses (checked_text text) ≡ true)
   not-ready n =
-      let m = is_true (refuses (checked_text text)) (λ m. n (ap conversion_number (made-is m))) in
+      let m = is_true (refuses (checked_text text)) (λ m. true≢false (sym n ∙ ap refuses (made-is m))) in
       (refused-is m, m)
 
 -- ── The bytes used are those written ──
 
+fault_no_bytes : (fault : Fault) → conversion_used (Err fault) ≡ 0
+fault_no_bytes Short = refl
+fault_no_bytes (Before place) = refl
+fault_no_bytes (Byte place) = refl
+fault_no_bytes (Wide place) = refl
+fault_no_bytes (Many place) = refl
+fault_no_bytes (Empty place) = refl
+fault_no_bytes (Uneven place) = refl
+
 no_bytes : (a : Conversion) → refuses a ≡ true → conversion_used a ≡ 0
-no_bytes (Done used) e = absurd (false≢true e)
-no_bytes Short e = refl
-no_bytes (Before place) e = refl
-no_bytes (Byte place) e = refl
-no_bytes (Wide place) e = refl
-no_bytes (Many place) e = refl
-no_bytes (Empty place) e = refl
-no_bytes (Uneven place) e = refl
+no_bytes (Ok used) e = absurd (false≢true e)
+no_bytes (Err fault) e = fault_no_bytes fault
 
 pub used-written : (lent e : ℕ) (text : Bytes) → length (cond (refuses (conversion_of lent e text)) [] (job_of e text)) ≡ conversion_used (conversion_of lent e text)
 unfolding conversion_of
 used-written lent e text = go (ltb lent job_room) (refuses (checked_text text)) refl
   where
     go : (s m : Bool) → refuses (checked_text text) ≡ m →
-        let a = when s refuse Short else when m refuse checked_text text else Done (length (job_of e text)) in
+        let a = when s refuse Err Short else when m refuse checked_text text else Ok (length (job_of e text)) in
         length (cond (refuses a) [] (job_of e text)) ≡ conversion_used a
     go true m f = refl
     go false true f = rw f (sym (no_bytes (checked_text text) f))

@@ -1,13 +1,12 @@
 -- RULES 18.7 and 18.8: the refusals 21 to 26, for which the text alone is looked at.
-use Rattle.std.specs.Prelude.{Bool, not, ◌&&◌, ℕ, suc, ◌-◌, ltb, eqb, length}
+use Rattle.std.specs.Prelude.{Bool, not, ◌&&◌, ℕ, suc, ◌-◌, ltb, eqb, length, Err}
 use Rattle.graph.specs.Below.{first}
 use Rattle.rules.specs.Sizes.{most_rows, most_width, first_state, last_state}
 use Rattle.rules.specs.Answers.{when◌refuse◌else◌}
 use Rattle.rules.specs.Job.{Bytes, outside}
 use Rattle.fasta.specs.Lines.{byte_at, opens, is_state}
-use Rattle.fasta.specs.Answers.{refuses, no_fault}
-use Rattle.fasta.specs.declared.conversion.Conversion.{Conversion}
-use Rattle.fasta.specs.declared.conversion.Conversion.TheVariants.{Before, Byte, Wide, Many, Empty, Uneven}
+use Rattle.fasta.specs.Answers.{Conversion, refuses, no_fault}
+use Rattle.fasta.specs.declared.conversion.Fault.TheVariants.{Before, Byte, Wide, Many, Empty, Uneven}
 use Rattle.fasta.specs.Sequences.{opened, joined, sequences, sequence}
 
 -- ── Met while reading; the place is a byte ──
@@ -37,10 +36,10 @@ one_too_many text i = opens text i && ltb most_rows (suc (opened text i))
 -- RULES 18.8: the fault of a byte, the lowest number first.
 abbrev pub fault_at : Bytes → ℕ → Conversion
 fault_at text i =
-    when before_first text i refuse Before i else
-    when bad_byte text i refuse Byte i else
-    when one_too_wide text i refuse Wide i else
-    when one_too_many text i refuse Many i else
+    when before_first text i refuse Err (Before i) else
+    when bad_byte text i refuse Err (Byte i) else
+    when one_too_wide text i refuse Err (Wide i) else
+    when one_too_many text i refuse Err (Many i) else
     no_fault
 
 -- RULES 18.8: the first byte at fault, or the length of the text if none is.
@@ -61,7 +60,7 @@ first_uneven text = first (sequences text) (λ k. not (eqb (length (sequence tex
 unfoldable pub checked_text : Bytes → Conversion
 checked_text text =
     when ltb (first_fault text) (length text) refuse fault_at text (first_fault text) else
-    when eqb (sequences text) 0 refuse Empty 0 else
-    when ltb (first_empty text) (sequences text) refuse Empty (first_empty text) else
-    when ltb (first_uneven text) (sequences text) refuse Uneven (first_uneven text) else
+    when eqb (sequences text) 0 refuse Err (Empty 0) else
+    when ltb (first_empty text) (sequences text) refuse Err (Empty (first_empty text)) else
+    when ltb (first_uneven text) (sequences text) refuse Err (Uneven (first_uneven text)) else
     no_fault

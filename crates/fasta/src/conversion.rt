@@ -4,10 +4,9 @@ ghost use Rattle.fasta.specs.Answers.{ToldConversion};
 
 use answers::{Told, refusal};
 
-// What a text is answered: a job block of so many bytes, or the refusals 20 to 26 in their order.
-#[derive(Clone, Copy)]
-pub enum Conversion {
-    Done { used: usize },
+// The refusals 20 to 26, in their order.
+#[derive(Clone, Copy, Debug, PartialEq, Eq)]
+pub enum Fault {
     Short,
     Before { place: usize },
     Byte { place: usize },
@@ -17,22 +16,25 @@ pub enum Conversion {
     Uneven { place: usize },
 }
 
-// Its number, its place, and the bytes used.
+// What a text is answered: a job block of so many bytes, or its refusal.
+pub type Conversion = Result<usize, Fault>;
+
+// Its number, its place, and the bytes used. (No `From`: neither `Result` nor `Told` is this crate's own.)
 pub fn tell_conversion(conversion: Conversion) -> Told
     ensures { ToldConversion conversion result }
 {
     match conversion {
-        Conversion::Done { used } => Told {
+        Ok(used) => Told {
             number: 0,
             place: 0,
             used,
         },
-        Conversion::Short => refusal(20, 0),
-        Conversion::Before { place } => refusal(21, place),
-        Conversion::Byte { place } => refusal(22, place),
-        Conversion::Wide { place } => refusal(23, place),
-        Conversion::Many { place } => refusal(24, place),
-        Conversion::Empty { place } => refusal(25, place),
-        Conversion::Uneven { place } => refusal(26, place),
+        Err(Fault::Short) => refusal(20, 0),
+        Err(Fault::Before { place }) => refusal(21, place),
+        Err(Fault::Byte { place }) => refusal(22, place),
+        Err(Fault::Wide { place }) => refusal(23, place),
+        Err(Fault::Many { place }) => refusal(24, place),
+        Err(Fault::Empty { place }) => refusal(25, place),
+        Err(Fault::Uneven { place }) => refusal(26, place),
     }
 }

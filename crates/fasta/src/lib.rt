@@ -18,10 +18,10 @@ ghost use Rattle.fasta.specs.Sequences.{states};
 ghost use Rattle.fasta.specs.Block.{job_header, weights_of};
 ghost use Rattle.fasta.specs.Converted.{Converted};
 
-use crate::alignment::size_of_job;
-use crate::conversion::{Conversion, tell_conversion};
+use crate::alignment::{JobSize, size_of_job};
+use crate::conversion::{Conversion, Fault};
 use crate::lines::{is_state, next_line};
-use memory::{clear_bytes, put_three, put_word};
+use memory::{clear, put_three, put_word};
 use rules::{JOB_HEAD, LARGEST_JOB};
 
 // The six numbers of the header.
@@ -40,10 +40,8 @@ fn put_weights(m: usize, job: &mut [u8])
     requires { job_head + 2 * m ≤ length job.old }
     ensures { job.new ≡ placed job.old job_head (weights_of m) }
 {
-    let mut c = 0;
-    while c < m {
+    for c in 0..m {
         put_word(job, JOB_HEAD + 2 * c, 1);
-        c += 1;
     }
 }
 
@@ -66,11 +64,9 @@ fn put_states(text: &[u8], job: &mut [u8], at: usize)
 {
     let mut to = at;
     let mut line = 0;
-    let mut i = 0;
-    while i < text.len() {
+    for i in 0..text.len() {
         to = put_state(text, line, i, job, to);
         line = next_line(text, line, i);
-        i += 1;
     }
 }
 
@@ -78,22 +74,15 @@ fn put_states(text: &[u8], job: &mut [u8], at: usize)
 pub fn make_job(text: &[u8], epsilon: u16, job: &mut [u8]) -> Conversion
     ensures { Converted text.now epsilon (length job.old) job.new result }
 {
-    clear_bytes(job);
+    clear(job, 0);
     if job.len() < LARGEST_JOB {
-        return Conversion::Short;
+        return Err(Fault::Short);
     }
-    let size = size_of_job(text);
-    let answer = size.answer;
-    let told = tell_conversion(answer);
-    if told.number != 0 {
-        return answer;
-    }
-    let rows = size.rows;
-    let width = size.width;
+    let JobSize { rows, width } = size_of_job(text)?;
     let states = JOB_HEAD + 2 * width;
     let used = states + rows * width;
     put_job_header(rows, width, epsilon as usize, job);
     put_weights(width, job);
     put_states(text, job, states);
-    Conversion::Done { used }
+    Ok(used)
 }

@@ -6,67 +6,45 @@
 
 ghost use Rattle.std.specs.Prelude.{◌≡◌, ◌≤◌, length, slice_range, take};
 ghost use Rattle.std.specs.Io.KnownBytes.{Consumes};
+ghost use Rattle.text.specs.Printed.{text_room};
 
-use answers::Told;
 use memory::copy;
 use rules::{Answer, LARGEST_JOB, RESULT_AREA};
 use service::answer_job;
 use std::io::{Read, Stdin};
-use streams::Console;
-use streams::printing::write_all;
-use streams::reading::read_full;
-use text::{TEXT_ROOM, brief, tell_text};
+use streams::reading::read_most;
+use streams::{Console, Terminal};
+use text::{TEXT_ROOM, brief};
 
-// A text, by one write.
-fn print(console: &mut Console, text: &[u8]) {
-    if !write_all(&mut console.output, text) {
-        write_all(
-            &mut console.errors,
-            b"hurdlesong: the answer could not be written\n",
-        );
-    }
-}
-
-// Prints the text of an answer if the memory lent has room for it, and says whether it has.
-fn print_in<'a>(
-    console: &mut Console,
+// Prints the text of an answer if N bytes have room for it, and says whether they have.
+fn print_in<'a, const N: usize>(
+    console: &mut Terminal,
     job: &'a [u8],
     block: &'a [u8],
     answer: Answer,
-    out: &mut [u8],
-) -> bool {
-    let printed = brief(job, block, answer, out);
-    let told: Told = tell_text(printed);
-    if told.number != 0 {
+) -> bool
+    requires { N ≤ text_room }
+{
+    let mut room = [0u8; N];
+    let out = &mut room[..];
+    let Ok(used) = brief(job, block, answer, out) else {
         return false;
-    }
-    let used = told.used;
-    print(console, &out[0..used]);
+    };
+    let _ = console.print(
+        &out[..used],
+        b"hurdlesong: the answer could not be written\n",
+    );
     true
 }
 
-fn print_short<'a>(console: &mut Console, job: &'a [u8], block: &'a [u8], answer: Answer) -> bool {
-    let mut out = [0u8; 2047];
-    print_in(console, job, block, answer, &mut out)
-}
-
-fn print_middle<'a>(console: &mut Console, job: &'a [u8], block: &'a [u8], answer: Answer) -> bool {
-    let mut out = [0u8; 16384];
-    print_in(console, job, block, answer, &mut out)
-}
-
-// So much is enough for every text.
-fn print_long<'a>(console: &mut Console, job: &'a [u8], block: &'a [u8], answer: Answer) -> bool {
-    let mut out = [0u8; TEXT_ROOM];
-    print_in(console, job, block, answer, &mut out)
-}
-
-// A job is answered, and the answer printed.
-fn answer(console: &mut Console, job: &[u8]) {
+// A job is answered, and the answer printed. The last room is enough for every text.
+fn answer(console: &mut Terminal, job: &[u8]) {
     let mut result = [0u8; RESULT_AREA];
     let answer = answer_job(job, &mut result);
-    if !print_short(console, job, &result, answer) && !print_middle(console, job, &result, answer) {
-        print_long(console, job, &result, answer);
+    if !print_in::<2047>(console, job, &result, answer)
+        && !print_in::<16384>(console, job, &result, answer)
+    {
+        print_in::<TEXT_ROOM>(console, job, &result, answer);
     }
 }
 
@@ -80,12 +58,12 @@ fn read_on<R: Read>(input: &mut R, front: &[u8], job: &mut [u8]) -> usize
 {
     copy(front, job, 0);
     let from = front.len();
-    let more = read_full(input, &mut job[from..]);
-    from + more.length
+    let more = read_most(input, &mut job[from..]);
+    from + more
 }
 
 // A byte more than the largest job is read, so that a longer one is refused.
-fn answer_long(console: &mut Console, input: &mut Stdin, front: &[u8; 2047]) {
+fn answer_long(console: &mut Terminal, input: &mut Stdin, front: &[u8; 2047]) {
     let mut job = [0u8; LARGEST_JOB + 1];
     let n = read_on(input, front, &mut job);
     answer(console, &job[0..n]);
@@ -98,7 +76,7 @@ fn main(rt: HostRuntime) {
     };
     let mut input = rt.stdin();
     let mut job = [0u8; 2047];
-    let n = read_full(&mut input, &mut job).length;
+    let n = read_most(&mut input, &mut job);
     if n < 2047 {
         answer(&mut console, &job[..n]);
     } else {

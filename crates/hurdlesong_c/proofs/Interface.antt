@@ -1,21 +1,19 @@
 -- What is told of a call and of a text is what the rooms below say, and a text by number and place is the text of the answer that they are told of.
+use Rattle.std.specs.Prelude.{Ok}
 use mathlib.Core.Path.{◌≡◌, refl, ◌∙◌}
 use mathlib.Core.Logic.{◌≢◌}
 use mathlib.Core.List.{List}
 use Prim.Native.Nat.{ℕ}
 use borrow.Author.Tests.{eq-eqb, ne_eqb}
-use Rattle.rules.specs.Answers.{number, place}
+use Rattle.rules.specs.Answers.{number, place, Answer}
 use Rattle.rules.specs.Job.{Bytes}
 use Rattle.rules.specs.Lent.{Lent}
 use Rattle.rules.specs.Call.{answer, padded, result_after}
 use Rattle.rules.specs.Text.{printed}
-use Rattle.rules.specs.declared.Answer.{Answer}
-use Rattle.rules.specs.declared.Answer.TheVariants.{Done}
 use Rattle.rules.specs.declared.Link.{Link}
 use Rattle.answers.specs.Told.{ToldOf}
 use Rattle.answers.specs.declared.Told.{Told}
-use Rattle.text.specs.Printed.{ToldText, RefusalLeft, TextLeft, text_of, printed_as, printed_bytes}
-use Rattle.text.specs.declared.Printed.{Printed}
+use Rattle.text.specs.Printed.{ToldText, RefusalLeft, TextLeft, text_of, printed_as, printed_bytes, Printed}
 use Rattle.network.specs.Called.{lent_by, Called}
 use Rattle.service.specs.Served.{printed_in}
 use Rattle.service.proofs.Text.{text-is, printed_is}
@@ -30,7 +28,7 @@ call_told c t = record { called = rw c.served.answered at c; told = rw c.served.
 
 -- The text that `text` leaves, and the line that `refusal_text` leaves, each told by number and place.
 module _ {job block : Bytes} {n at lent : ℕ} {out : Bytes} {p : Printed} {r : Told} where
-  pub network-told : n ≡ 0 → TextLeft job block (Done 0) lent out p → ToldText p r → TextTold job block n at lent out r
+  pub network-told : n ≡ 0 → TextLeft job block (Ok 0) lent out p → ToldText p r → TextTold job block n at lent out r
   unfolding printed_as
   network-told e t told = record { told = rw (eq-eqb n 0 e, ← t.answered) told; left = t.left ∙ rw (eq-eqb n 0 e) }
 

@@ -11,7 +11,7 @@ ghost use Rattle.hurdlesong_c.specs.Interface.{CallTold, TextTold};
 use answers::{Told, tell};
 use lookup::{Place, place_of};
 use network::call;
-use rules::{Answer, Link};
+use rules::Link;
 use text::{refusal_text, tell_text, text};
 
 // Every job gets an answer: its number, its place and the bytes used.
@@ -46,7 +46,7 @@ pub fn hurdlesong_text<'a>(
     ensures { TextTold job.now block.now number place (length out.old) out.new result }
 {
     if number == 0 {
-        let printed = text(job, block, Answer::Done { used: 0 }, out);
+        let printed = text(job, block, Ok(0), out);
         return tell_text(printed);
     }
     let printed = refusal_text(number, place, out);

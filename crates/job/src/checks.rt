@@ -6,7 +6,7 @@ ghost use Rattle.job.specs.Stages.{Sized};
 
 use crate::contents::{check_contents, outside};
 use memory::word_at;
-use rules::{Answer, JOB_HEAD, MOST_ROWS, MOST_WIDTH};
+use rules::{Answer, JOB_HEAD, MOST_ROWS, MOST_WIDTH, Refusal};
 
 // LAYOUT, and what is tried behind it.
 fn check_layout(job: &[u8], n: usize, m: usize) -> Answer
@@ -14,17 +14,17 @@ fn check_layout(job: &[u8], n: usize, m: usize) -> Answer
     ensures { result ≡ checked job.now }
 {
     if word_at(job, 6) != JOB_HEAD {
-        return Answer::Layout { place: 6 };
+        return Err(Refusal::Layout { place: 6 });
     }
     if word_at(job, 8) != JOB_HEAD + 2 * m {
-        return Answer::Layout { place: 8 };
+        return Err(Refusal::Layout { place: 8 });
     }
     let whole = JOB_HEAD + 2 * m + n * m;
     if word_at(job, 10) != whole {
-        return Answer::Layout { place: 10 };
+        return Err(Refusal::Layout { place: 10 });
     }
     if job.len() != whole {
-        return Answer::Layout { place: 12 };
+        return Err(Refusal::Layout { place: 12 });
     }
     check_contents(job, n, m)
 }
@@ -34,15 +34,15 @@ pub fn check(job: &[u8]) -> Answer
     ensures { result ≡ checked job.now }
 {
     if job.len() < JOB_HEAD {
-        return Answer::Head;
+        return Err(Refusal::Head);
     }
     let n = word_at(job, 0);
     if outside(1, MOST_ROWS, n) {
-        return Answer::Rows;
+        return Err(Refusal::Rows);
     }
     let m = word_at(job, 2);
     if outside(1, MOST_WIDTH, m) {
-        return Answer::Width;
+        return Err(Refusal::Width);
     }
     check_layout(job, n, m)
 }

@@ -6,7 +6,7 @@ ghost use Rattle.rules.specs.Job.{rows, width, outside, bad_weight, bad_state, c
 ghost use Rattle.job.specs.Stages.{LaidOut};
 
 use memory::word_at;
-use rules::{Answer, FIRST_STATE, JOB_HEAD, LAST_STATE, MOST_WEIGHT};
+use rules::{Answer, FIRST_STATE, JOB_HEAD, LAST_STATE, MOST_WEIGHT, Refusal};
 
 // A number outside its bounds.
 pub fn outside(low: usize, high: usize, x: usize) -> bool
@@ -15,39 +15,34 @@ pub fn outside(low: usize, high: usize, x: usize) -> bool
     x < low || high < x
 }
 
-// The first column whose weight is 0 or over 1,000, or the width where there is none.
+// The first column whose weight is 0 or over 1,000, or the width where there is none: the definition says it by this number.
 fn bad_weight(job: &[u8], m: usize) -> usize
     requires { (m ≡ width job.now) × (m ≤ most_width) × (job_head + 2 * m ≤ length job.now) }
     ensures { result ≡ bad_weight job.now }
 {
-    let mut c = 0;
-    while c < m {
+    for c in 0..m {
         if outside(1, MOST_WEIGHT, word_at(job, JOB_HEAD + 2 * c)) {
             return c;
         }
-        c += 1;
     }
-    c
+    m
 }
 
-// The first place in row order whose state is outside 33 to 126, counted over all states, or their number where there is none.
+// The first place in row order whose state is outside 33 to 126, counted over all states, or their number where there is none, as the
+// definition says it. Two loops and a label are the form that the customer named.
 fn bad_state(job: &[u8], n: usize, m: usize) -> usize
     requires { (n ≡ rows job.now) × (m ≡ width job.now) × (length job.now ≡ job_head + 2 * m + n * m) }
     ensures { result ≡ bad_state job.now }
 {
     let first = JOB_HEAD + 2 * m;
     let mut place = 0;
-    let mut row = 0;
-    'rows: while row < n {
-        let mut column = 0;
-        while column < m {
+    'rows: for _row in 0..n {
+        for _column in 0..m {
             if outside(FIRST_STATE, LAST_STATE, job[first + place] as usize) {
                 break 'rows;
             }
             place += 1;
-            column += 1;
         }
-        row += 1;
     }
     place
 }
@@ -61,10 +56,10 @@ pub fn check_contents(job: &[u8], n: usize, m: usize) -> Answer
     let column = bad_weight(job, m);
     let place = bad_state(job, n, m);
     if column < m {
-        return Answer::Weight { place: column };
+        return Err(Refusal::Weight { place: column });
     }
     if place < states {
-        return Answer::State { place };
+        return Err(Refusal::State { place });
     }
-    Answer::Done { used: 0 }
+    Ok(0)
 }

@@ -42,10 +42,8 @@ pub fn weights(job: &[u8], m: usize) -> [u16; MOST_WIDTH]
     ensures { result ≡ padded most_width (weights job.now) }
 {
     let mut w = [0u16; MOST_WIDTH];
-    let mut c = 0;
-    while c < m {
+    for c in 0..m {
         w[c] = word_at(job, JOB_HEAD + 2 * c) as u16;
-        c += 1;
     }
     w
 }

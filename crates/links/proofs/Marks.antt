@@ -11,6 +11,7 @@ use native.Mathlib.Decide.{ℕ_discrete, dec_lt}
 use lib.Dec.{eqb}
 use lib.ListN.{get_or}
 use borrow.Author.Tests.{eq-eqb, ne_eqb}
+use Rattle.std.specs.Int.{from_bool}
 use Rattle.graph.specs.Spans.{spans, feasible}
 use Rattle.graph.proofs.Below.{sum_more, count_le}
 use Rattle.graph.proofs.Feasibility.{feasible-back}
@@ -75,6 +76,10 @@ pub record Counted (area : List ℕ) (i n j links : ℕ) : Type 0 where
   pub is : links ≡ mark_count area (min j n) i
   pub few : links ≤ n
 
+counts_one : (t : Bool) → from_bool t ≡ cond t 1 0
+counts_one true = refl
+counts_one false = refl
+
 module _ {area : List ℕ} {i n : ℕ} where
   pub counted-at : {j links : ℕ} → links ≡ mark_count area (min j n) i → Counted area i n j links
   counted-at {j} e = record { is = e; few = omega (arith, count_le (min j n) (marked area i)) }
@@ -84,8 +89,9 @@ module _ {area : List ℕ} {i n : ℕ} where
 
   -- One type more counts 1 if its mark, read at its place, says linked. Type i itself is not linked.
   pub counted-more : {j links one : ℕ} (p : ℕ) → Counted area i n j links → (j < n) × (i ≢ j) × (p ≡ mirrored i j) →
-      one ≡ cond (eqb (get_or area p 0) 1) 1 0 → Counted area i n (j + 1) (links + one)
-  counted-more {j} {links} {one} p c (h, ne, at) e =
+      one ≡ from_bool (eqb (get_or area p 0) 1) → Counted area i n (j + 1) (links + one)
+  counted-more {j} {links} {one} p c (h, ne, at) is =
+      let e = is ∙ counts_one (eqb (get_or area p 0) 1) in
       let old : min j n ≡ j = omega arith in
       let new : min (j + 1) n ≡ j + 1 = omega arith in
       counted-at (rw (new, sum_more j (λ k. cond (marked area i k) 1 0), ne_eqb i j ne, ← at, ← e, c.is, old))
@@ -97,6 +103,3 @@ module _ {area : List ℕ} {i n : ℕ} where
         rw (old, new, sum_more i (λ k. cond (marked area i k) 1 0), eq-eqb i i refl) (omega arith)
     | no h ↦ let same : min (i + 1) n ≡ min i n = omega arith in rw same
   ])
-
-  pub counted-all : {j links : ℕ} → n ≤ j → Counted area i n j links → links ≡ mark_count area n i
-  counted-all {j} h c = let e : min j n ≡ n = omega arith in rw e at c.is

@@ -3,7 +3,7 @@
 
 #![tactic(auto)]
 
-ghost use Rattle.std.specs.Prelude.{◌≡◌, cond, ◌+◌, ◌*◌, ◌≤◌, ◌<◌, eqb, length};
+ghost use Rattle.std.specs.Prelude.{◌≡◌, ◌+◌, ◌*◌, ◌≤◌, ◌<◌, length};
 ghost use Rattle.rules.specs.Sizes.{most_types, line_size, distance_area};
 ghost use Rattle.distances.specs.Area.{CellsWritten, Line};
 ghost use Rattle.spans.specs.Tree.{Mirror};
@@ -17,42 +17,34 @@ use spans::{mirrored, spans};
 fn mark_of(distance: u16, span: u16, epsilon: u16) -> u16
     ensures { result ≡ mark_of epsilon distance span }
 {
-    let need = if epsilon < distance {
-        distance - epsilon
-    } else {
-        0
-    };
-    if need <= span { 1 } else { 0 }
+    let need = distance.saturating_sub(epsilon);
+    u16::from(need <= span)
 }
 
 // The marks of type j and the types before it.
-fn mark_line(area: &mut [u16], spans: &[u16], epsilon: usize, j: usize)
-    requires { (epsilon ≤ 65535) × (j < most_types) × (distance_area ≤ length area.old) × (line_size * j + line_size ≤ length spans.now) }
+fn mark_line(area: &mut [u16], spans: &[u16], epsilon: u16, j: usize)
+    requires { (j < most_types) × (distance_area ≤ length area.old) × (line_size * j + line_size ≤ length spans.now) }
     ensures { CellsWritten (Line j j) (mark epsilon spans.now area.old) area.old area.new }
 {
     let from = LINE * j;
-    let mut i = 0;
-    while i < j {
-        area[from + i] = mark_of(area[from + i], spans[from + i], epsilon as u16);
-        i += 1;
+    for i in 0..j {
+        area[from + i] = mark_of(area[from + i], spans[from + i], epsilon);
     }
 }
 
 // The marks of n types whose mirror cells hold their distances.
-fn mark(area: &mut [u16], spans: &[u16], n: usize, epsilon: usize)
-    requires { (epsilon ≤ 65535) × (n ≤ most_types) × (distance_area ≤ length area.old) × (line_size * n ≤ length spans.now) }
+fn mark(area: &mut [u16], spans: &[u16], n: usize, epsilon: u16)
+    requires { (n ≤ most_types) × (distance_area ≤ length area.old) × (line_size * n ≤ length spans.now) }
     ensures { CellsWritten (Mirror n) (mark epsilon spans.now area.old) area.old area.new }
 {
-    let mut j = 0;
-    while j < n {
+    for j in 0..n {
         mark_line(area, spans, epsilon, j);
-        j += 1;
     }
 }
 
 // The links of n types at epsilon, by their spans.
-fn link(area: &mut [u16], all: &mut [u16], n: usize, epsilon: usize)
-    requires { (epsilon ≤ 65535) × (n ≤ most_types) × (distance_area ≤ length area.old) × (line_size * n ≤ length all.old) }
+fn link(area: &mut [u16], all: &mut [u16], n: usize, epsilon: u16)
+    requires { (n ≤ most_types) × (distance_area ≤ length area.old) × (line_size * n ≤ length all.old) }
     ensures { LinksFound n epsilon area.old area.new }
 {
     spans(area, all, n);
@@ -66,10 +58,10 @@ pub fn find_links(area: &mut [u16], n: usize, epsilon: usize)
 {
     if n <= 16 {
         let mut few = [256u16; 2048];
-        link(area, &mut few, n, epsilon);
+        link(area, &mut few, n, epsilon as u16);
     } else {
         let mut all = [256u16; DISTANCE_AREA];
-        link(area, &mut all, n, epsilon);
+        link(area, &mut all, n, epsilon as u16);
     }
 }
 
@@ -81,13 +73,6 @@ pub fn linked(area: &[u16], i: usize, j: usize) -> bool
     i != j && area[mirrored(i, j)] == 1
 }
 
-// A mark counts 1 if it says linked, and else 0.
-fn one(mark: u16) -> u16
-    ensures { result ≡ cond (eqb mark 1) 1 0 }
-{
-    if mark == 1 { 1 } else { 0 }
-}
-
 // How many of the first n types are linked with type i, none of which is behind it: their marks stand in its line.
 fn links_before(area: &[u16], n: usize, i: usize) -> u16
     requires { (n ≤ i) × (i < most_types) × (distance_area ≤ length area.now) }
@@ -95,10 +80,8 @@ fn links_before(area: &[u16], n: usize, i: usize) -> u16
 {
     let from = LINE * i;
     let mut links = 0;
-    let mut j = 0;
-    while j < n {
-        links += one(area[from + j]);
-        j += 1;
+    for j in 0..n {
+        links += u16::from(area[from + j] == 1);
     }
     links
 }
@@ -108,12 +91,9 @@ pub fn link_count(area: &[u16], n: usize, i: usize) -> usize
     requires { (n ≤ most_types) × (i < most_types) × (distance_area ≤ length area.now) }
     ensures { result ≡ mark_count area.now n i }
 {
-    let before = if i < n { i } else { n };
-    let mut links = links_before(area, before, i);
-    let mut j = i + 1;
-    while j < n {
-        links += one(area[LINE * j + i]);
-        j += 1;
+    let mut links = links_before(area, i.min(n), i);
+    for j in i + 1..n {
+        links += u16::from(area[LINE * j + i] == 1);
     }
     links as usize
 }

@@ -14,7 +14,8 @@ use crate::matching::block_matches;
 use memory::word_at;
 use rules::{JOB_HEAD, RECORD_SIZE, RECORDS_OFFSET};
 
-// Where the states of a type lie: in the job (1), in the result block (2) or nowhere (0); from which byte on; how many.
+// Where the states of a type lie: in the job (1), in the result block (2) or nowhere (0); from which byte on; how many. Numbers, since C
+// programs read them.
 #[repr(C)]
 #[derive(Clone, Copy)]
 pub struct Place {

@@ -5,7 +5,6 @@ ghost use Rattle.std.specs.Prelude.{◌≡◌, ◌≤◌};
 ghost use Rattle.rules.specs.Lookup.{types_in, sampled_types, header_fits};
 ghost use Rattle.lookup.specs.Match.{matches};
 
-use answers::tell;
 use job::checks::check;
 use memory::word_at;
 use rules::{MOST_TYPES, RECORD_SIZE, RECORDS_OFFSET};
@@ -39,9 +38,5 @@ fn header_fits(block: &[u8], m: usize) -> bool
 pub fn block_matches(job: &[u8], block: &[u8]) -> bool
     ensures { result ≡ matches job.now block.now }
 {
-    let checked = tell(check(job));
-    if checked.number != 0 {
-        return false;
-    }
-    header_fits(block, word_at(job, 2))
+    check(job).is_ok() && header_fits(block, word_at(job, 2))
 }

@@ -1,4 +1,3 @@
-pub mod Compared
 pub mod Mixed
 pub mod Place
 pub mod Guesses

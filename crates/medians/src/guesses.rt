@@ -1,7 +1,7 @@
 // The corner of guesses: whether a row is among those made, or among those gathered since. Where a row stands is guessed first, by a
 // table of guesses that may hold any numbers: a guess is checked, and a wrong one costs a search. It reads the state area.
 
-ghost use Rattle.std.specs.Prelude.{◌≡◌, ◌+◌, ◌*◌, ◌≤◌, ltb, length, set};
+ghost use Rattle.std.specs.Prelude.{◌≡◌, ◌+◌, ◌*◌, ◌≤◌, ◌<◌, ltb, length, set};
 ghost use Rattle.rules.specs.Sizes.{most_types, row_size};
 ghost use Rattle.rules.specs.Types.{is_same_row};
 ghost use Rattle.medians.specs.Guesses.{slot_of, known_at, right_guess, guesses_of, guesses_size};
@@ -12,34 +12,22 @@ use types::{find_row, row_at};
 // So many guesses are kept.
 pub const GUESSES: usize = 4096;
 
-// Whether two rows of 64 bytes are the same. All bytes are compared.
+// Whether two rows of 64 bytes are the same.
 pub fn alike(a: &[u8], b: &[u8]) -> bool
     requires { (length a.now ≡ row_size) × (length b.now ≡ row_size) }
     ensures { result ≡ is_same_row a.now b.now }
 {
-    let mut others = 0u8;
-    let mut c = 0;
-    while c < ROW {
-        if a[c] != b[c] {
-            others += 1;
-        }
-        c += 1;
-    }
-    others == 0
+    a == b
 }
 
 // The place of a row's guess: its bytes, mixed.
 fn slot(row: &[u8; ROW]) -> usize
-    ensures { result ≡ slot_of row.now }
+    ensures { (result ≡ slot_of row.now) × (result < guesses_size) }
 {
-    // as a slice, the row is known to have 64 bytes
-    let bytes: &[u8] = row;
     let mut sum = 0u32;
-    let mut c = 0;
-    while c < ROW {
+    for c in 0..ROW {
         let key = c as u32;
-        sum += (bytes[c] as u32) * (13 * key * key + 4801);
-        c += 1;
+        sum += u32::from(row[c]) * (13 * key * key + 4801);
     }
     sum as usize % GUESSES
 }
@@ -56,7 +44,7 @@ pub fn guessed(
     requires { (row_size * made ≤ length states.now) × (row_size * count ≤ length gathered.now) × (made + count ≤ most_types) × (length guesses.now ≡ guesses_size) }
     ensures { result ≡ right_guess states.now made gathered.now count guesses.now row.now }
 {
-    let guess = guesses[slot(row)] as usize;
+    let guess = usize::from(guesses[slot(row)]);
     if guess < made {
         alike(&states[ROW * guess..ROW * guess + ROW], row)
     } else if guess < made + count {
@@ -97,11 +85,9 @@ pub fn guess_all(states: &[u8], made: usize) -> [u16; GUESSES]
     ensures { result ≡ guesses_of states.now made }
 {
     let mut guesses = [256u16; GUESSES];
-    let mut i = 0;
-    while i < made {
+    for i in 0..made {
         let row = row_at(states, i);
         guesses[slot(&row)] = i as u16;
-        i += 1;
     }
     guesses
 }

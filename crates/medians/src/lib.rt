@@ -33,11 +33,10 @@ fn median(states: &[u8], x: usize, y: usize, z: usize) -> [u8; ROW]
     let own = ROW * x;
     let second = ROW * y;
     let third = ROW * z;
+    // `array::from_fn` proves too, but the check cannot write its statements then
     let mut row = [0u8; ROW];
-    let mut c = 0;
-    while c < ROW {
+    for c in 0..ROW {
         row[c] = pick(states[own + c], states[second + c], states[third + c]);
-        c += 1;
     }
     row
 }
@@ -47,10 +46,11 @@ pub fn medians(states: &[u8], u: usize, v: usize, w: usize) -> [[u8; ROW]; 3]
     requires { (row_size * u + row_size ≤ length states.now) × (row_size * v + row_size ≤ length states.now) × (row_size * w + row_size ≤ length states.now) }
     ensures { result ≡ medians (stored_at states.now u) (stored_at states.now v) (stored_at states.now w) }
 {
-    let first = median(states, u, v, w);
-    let second = median(states, v, u, w);
-    let third = median(states, w, u, v);
-    [first, second, third]
+    [
+        median(states, u, v, w),
+        median(states, v, u, w),
+        median(states, w, u, v),
+    ]
 }
 
 // Their connection cost, the same for all three: a character in which two of the types differ costs its weight, and one in which
@@ -63,18 +63,17 @@ pub fn connection(states: &[u8], weights: &[u16], u: usize, v: usize, w: usize) 
     let second = ROW * v;
     let third = ROW * w;
     let mut cost = 0u32;
-    let mut c = 0;
-    while c < ROW {
+    for c in 0..ROW {
+        let weight = u32::from(weights[c]);
         let a = states[first + c];
         let b = states[second + c];
         let d = states[third + c];
         if a != b {
-            cost += weights[c] as u32;
+            cost += weight;
         }
         if a != d && b != d {
-            cost += weights[c] as u32;
+            cost += weight;
         }
-        c += 1;
     }
     cost as usize
 }

@@ -18,7 +18,7 @@ use triplets::Triplet;
 pub const ABOVE_ALL_COSTS: usize = 128001;
 
 // A search: only costs below this matter; so many rows were made, and so many candidates gathered since. When candidates are gathered
-// and no room is left for one more, the search is full and looks for nothing more.
+// and no room is left for one more, the search is full and looks for nothing more: no cost is below 0, so that loops ask for nothing else.
 #[derive(Clone, Copy)]
 pub struct Search {
     pub below: usize,

@@ -26,10 +26,7 @@ pub fn visit(
         × Swept (Gives weights.now states.now search.made t) (Gives weights.now states.now search.made t)
         gathered.old search gathered.new result }
 {
-    let rows = medians(states, t.u, t.v, t.w);
-    let first = rows[0];
-    let second = rows[1];
-    let third = rows[2];
+    let [first, second, third] = medians(states, t.u, t.v, t.w);
     let one = consider(states, weights, gathered, guesses, search, t, &first);
     if alike(&first, &second) {
         return one;

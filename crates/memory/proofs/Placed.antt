@@ -5,9 +5,8 @@ use Prim.Native.Nat.{ℕ, zero, suc, ◌+◌, ◌-◌, ◌≤◌, ◌<◌}
 use native.Mathlib.Nat.{add-zero, zero-add, add_assoc, sub-zero, zero-sub, suc-sub-suc}
 use native.Mathlib.Numerals.{add-one}
 use native.Mathlib.Omega.{arith}
-use lib.ListN.{length, take, drop, set, get_or, replicate, length-append, length-drop, length-set, length-replicate, get_or-replicate, take-append-drop, drop_of_length-le}
-use lib.Seq.{length-take-le, take-suc, drop-cons, set_at, append_snoc, take_at, take-append-le, take-take, drop-append-add, drop-drop, get_or-take, get_or-drop, get_or-set_same, get_or-set_other, ext_get_or}
-use borrow.Author.Count.{below_more}
+use lib.ListN.{length, take, drop, set, get_or, replicate, length-append, length-drop, take-append-drop, drop_of_length-le}
+use lib.Seq.{length-take-le, take-suc, drop-cons, set_at, append_snoc, take_at, take-append-le, take-take, drop-append-add, drop-drop, get_or-take, get_or-drop}
 use Rattle.graph.specs.Below.{table}
 use Rattle.graph.proofs.Below.{length-table, table_more}
 use Rattle.rules.specs.Call.{padded}
@@ -93,22 +92,6 @@ pub table-front : (b now : List ℕ) (i v : ℕ) (f : ℕ → ℕ) → i < lengt
 table-front b now i v f h e g =
     ap₂ (λ (n : List ℕ) (k : ℕ). set n k v) e (sym (zero-add i)) ∙ placed-more b (table i f) 0 i v (length-table i f) (omega arith)
     ∙ ap (placed b 0) (rw (g, table_more))
-
--- Zeros are written from the front, whatever the width of a number: so many, one more, and all.
-pub record Cleared (n i : ℕ) (now : List ℕ) : Type 0 where
-  pub size : length now ≡ n
-  pub zeros : (k : ℕ) → k < i → get_or now k 0 ≡ 0
-
-module _ {n i : ℕ} {now : List ℕ} (c : Cleared n i now) where
-  pub cleared_more : i < n → Cleared n (i + 1) (set now i 0)
-  cleared_more h = record {
-    size = length-set now i 0 ∙ c.size;
-    zeros = below_more _ i (λ k l. get_or-set_other now i k 0 0 (omega arith) ∙ c.zeros k l) (get_or-set_same now i 0 0 (omega (arith, c.size)));
-  }
-
-  pub cleared-all : n ≤ i → now ≡ replicate n 0
-  cleared-all h = ext_get_or 0 now (replicate n 0) (c.size ∙ sym (length-replicate n 0))
-      (λ k l. c.zeros k (omega (arith, c.size)) ∙ sym (get_or-replicate n k 0 0 (omega (arith, c.size))))
 
 -- A copy from the front of s: one element more.
 pub taken_more : (b s now : List ℕ) (at i : ℕ) → i < length s → at + i < length b → now ≡ placed b at (take i s) →

@@ -1,9 +1,7 @@
 -- A number of 16 bits in decimal digits.
-use Rattle.std.specs.Prelude.{Bool, cond, not, ◌&&◌, ℕ, zero, suc, ◌+◌, ◌*◌, ◌-◌, ltb, length, get_or}
+use Rattle.std.specs.Prelude.{Bool, cond, not, ◌&&◌, ℕ, zero, suc, ◌+◌, ◌*◌, ◌-◌, ltb, length, get_or, Option, Some, None}
 use Rattle.graph.specs.Below.{every}
 use Rattle.rules.specs.Job.{Bytes, outside}
-use Rattle.memory.specs.declared.numerals.Numeral.{Numeral}
-use Rattle.memory.specs.declared.numerals.Numeral.TheVariants.{Number, Other}
 
 -- `0` to `9`.
 abbrev pub is_digit : ℕ → Bool
@@ -19,7 +17,7 @@ unfoldable pub is_decimal : Bytes → Bool
 is_decimal xs = ltb 0 (length xs) && every (length xs) (λ i. is_digit (get_or xs i 0))
 
 -- The number, where it has at most 16 bits.
-unfoldable pub numeral : Bytes → Numeral
+unfoldable pub numeral : Bytes → Option ℕ
 numeral xs =
     let value = value_of xs (length xs) in
-    cond (is_decimal xs && not (ltb 65535 value)) (Number value) Other
+    cond (is_decimal xs && not (ltb 65535 value)) (Some value) None

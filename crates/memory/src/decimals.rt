@@ -21,6 +21,7 @@ pub fn put_decimal(out: &mut [u8], at: usize, x: usize) -> usize
     requires { at + length (decimal x) ≤ length out.old }
     ensures { Follows out.old at (decimal x) out.new result }
 {
+    // by the kit's `itoa` it proves as well, but the text of a network with 1,408 links takes 4 % more instructions
     let mut digits = [0u8; 20];
     let mut first = 19;
     let mut left = x;

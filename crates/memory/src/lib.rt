@@ -17,7 +17,7 @@ pub fn word_at(b: &[u8], i: usize) -> usize
     requires { i + 1 < length b.now }
     ensures { WordAt b.now i result }
 {
-    b[i] as usize + 256 * (b[i + 1] as usize)
+    u16::from_le_bytes([b[i], b[i + 1]]) as usize
 }
 
 // Eight bytes as one number, low byte first: the compiler makes one load of it.
@@ -25,14 +25,7 @@ pub fn eight_at(b: &[u8], i: usize) -> u64
     requires { i + 8 ≤ length b.now }
     ensures { EightAt b.now i result }
 {
-    let mut word = 0u64;
-    let mut k = 8;
-    while 0 < k {
-        k -= 1;
-        let byte = b[i + k] as u64;
-        word = word * 256 + byte;
-    }
-    word
+    u64::from_le_bytes(<[u8; 8]>::try_from(&b[i..i + 8]).unwrap())
 }
 
 // Writes a number of 16 bits at a byte, low byte first.
@@ -40,8 +33,7 @@ pub fn put_word(b: &mut [u8], i: usize, x: usize)
     requires { (i + 1 < length b.old) × (x ≤ 65535) }
     ensures { b.new ≡ placed b.old i (words (x ∷ [])) }
 {
-    b[i] = (x % 256) as u8;
-    b[i + 1] = (x / 256) as u8;
+    copy(&(x as u16).to_le_bytes(), b, i);
 }
 
 // Three numbers of 16 bits, one behind the other: so the blocks have a header, a record and a link.
@@ -54,24 +46,13 @@ pub fn put_three(out: &mut [u8], at: usize, x: usize, y: usize, z: usize)
     put_word(out, at + 4, z);
 }
 
-// Zeros to the end, whatever stood there.
-pub fn clear_bytes(b: &mut [u8])
-    ensures { b.new ≡ replicate (length b.old) 0 }
+// One value to the end, whatever stood there.
+pub fn clear<T: Copy>(cells: &mut [T], blank: T)
+    ensures { cells.new ≡ replicate (length cells.old) blank }
 {
-    let mut i = 0;
-    while i < b.len() {
-        b[i] = 0;
-        i += 1;
-    }
-}
-
-pub fn clear_words(w: &mut [u16])
-    ensures { w.new ≡ replicate (length w.old) 0 }
-{
-    let mut i = 0;
-    while i < w.len() {
-        w[i] = 0;
-        i += 1;
+    // `fill` asks that a clone of the value cannot fail and is the value, which a `T: Copy` does not say
+    for cell in cells.iter_mut() {
+        *cell = blank;
     }
 }
 
@@ -80,9 +61,5 @@ pub fn copy(s: &[u8], b: &mut [u8], at: usize)
     requires { at + length s.now ≤ length b.old }
     ensures { b.new ≡ placed b.old at s.now }
 {
-    let mut i = 0;
-    while i < s.len() {
-        b[at + i] = s[i];
-        i += 1;
-    }
+    b[at..at + s.len()].copy_from_slice(s);
 }

@@ -3,37 +3,17 @@
 ghost use Rattle.std.specs.Prelude.{◌≡◌};
 ghost use Rattle.memory.specs.Numeral.{numeral};
 
-// What bytes say: a number of 16 bits, or something else.
-#[derive(Clone, Copy)]
-pub enum Numeral {
-    Number { value: u16 },
-    Other,
-}
-
 // The number that is written in decimal digits, of which there is at least one and nothing else.
-pub fn read_number(digits: &[u8]) -> Numeral
+pub fn read_number(digits: &[u8]) -> Option<u16>
     ensures { result ≡ numeral digits.now }
 {
-    if digits.len() == 0 {
-        return Numeral::Other;
+    if digits.is_empty() {
+        return None;
     }
-    let mut value = 0;
-    let mut i = 0;
-    while i < digits.len() {
-        let digit = digits[i] as usize;
-        if digit < 48 {
-            return Numeral::Other;
-        }
-        if 57 < digit {
-            return Numeral::Other;
-        }
-        value = 10 * value + (digit - 48);
-        if 65535 < value {
-            return Numeral::Other;
-        }
-        i += 1;
+    let mut value = 0u16;
+    for digit in digits {
+        let last = char::from(*digit).to_digit(10)?;
+        value = value.checked_mul(10)?.checked_add(last as u16)?;
     }
-    Numeral::Number {
-        value: value as u16,
-    }
+    Some(value)
 }

@@ -1,4 +1,5 @@
 -- What the call leaves: the links fit the table and the result, the result is the rules' once they are written, and no work memory is left.
+use Rattle.std.specs.Prelude.{Ok, Err}
 use mathlib.Core.Path.{◌≡◌, refl, sym, ap, ◌∙◌}
 use mathlib.Core.List.{List}
 use Prim.Native.Nat.{ℕ, zero, suc, ◌+◌, ◌*◌, ◌≤◌}
@@ -9,8 +10,11 @@ use Rattle.graph.specs.Below.{gather}
 use Rattle.graph.proofs.Below.{gather_ext}
 use Rattle.rules.specs.Job.{Bytes, width}
 use Rattle.rules.specs.Lent.{Lent}
-use Rattle.rules.specs.Call.{Verdict, refused, found, verdict, written, result_after}
+use Rattle.rules.specs.Call.{Verdict, refused, found, verdict, written, answer_to, answer, result_after}
+use Rattle.rules.specs.Answers.{Answer}
 use Rattle.rules.specs.declared.Link.{Link}
+use Rattle.rules.specs.declared.Refusal.{Refusal}
+use Rattle.rules.proofs.Answers.{ok-not-err}
 use Rattle.memory.specs.Placed.{placed}
 use Rattle.memory.proofs.Placed.{placed-none, placed-twice, get_or-placed, length-placed, placed-padded}
 use Rattle.readback.proofs.Lent.{enough}
@@ -21,8 +25,8 @@ use Rattle.purge.specs.Network.{links_in}
 use Rattle.result.proofs.Parts.{block-is, block_size}
 use Rattle.result.specs.Table.{Listable, link_bytes, table_bytes}
 use Rattle.network.specs.declared.draw.Sketch.{Sketch}
-use Rattle.network.specs.Drawn.{sketched, verdict_links, verdict_types}
-use Rattle.network.specs.Called.{lent_by, Unlinked, Called}
+use Rattle.network.specs.Drawn.{sketched, verdict_links, verdict_types, Outlined}
+use Rattle.network.specs.Called.{lent_by, Unlinked, Linked, Called}
 
 -- ── A verdict's links ──
 
@@ -69,8 +73,16 @@ zero_at zero i = refl
 zero_at (suc n) zero = refl
 zero_at (suc n) (suc i) = zero_at n i
 
-module _ (job result states : Bytes) (distances : List ℕ) (links : List Link) {result' states' : Bytes} {distances' : List ℕ} {r : Sketch}
-    (a : Unlinked job result states distances (length links) r result' states' distances') where
+-- Where the answer is a refusal nothing is written, and so nothing is left to write.
+nothing-left : (lent : Lent) (job : Bytes) {e : Refusal} → answer lent job ≡ Err e → sketched (width job) (verdict lent job) ≡ written (width job) (verdict lent job)
+unfolding answer
+nothing-left lent job told = go (verdict lent job) told
+  where
+    go : {e : Refusal} (v : Verdict) → answer_to (width job) v ≡ Err e → sketched (width job) v ≡ written (width job) v
+    go (refused a) e = refl
+    go (found net) e = absurd (ok-not-err e)
+
+module _ (job result states : Bytes) (distances : List ℕ) (links : List Link) where
   abbrev lent : Lent
   lent = lent_by result states distances links
 
@@ -80,51 +92,79 @@ module _ (job result states : Bytes) (distances : List ℕ) (links : List Link) 
   fits : Fits lent (width job) v
   fits = links_fit lent job v refl
 
-  -- The links that the distance area tells can be listed in the table.
-  pub listable : Listable distances' r.types r.links links
-  listable =
-      let w = a.wrote in
-      record {
-        few = rw w.types_are fits.few;
-        counted = w.count_is ∙ ap length (sym w.links_are);
-        room = rw w.count_is fits.table-room;
-        cells = λ h. rw a.distances_size (fits.cells (rw w.count_is at h));
-      }
+  module _ {result' states' : Bytes} {distances' : List ℕ} where
+    -- A refusal.
+    pub linked-refused : {e : Refusal} {r : Answer} → Unlinked job result states distances (length links) (Err e) result' states' distances' → r ≡ Err e →
+        Linked job result states distances links r result' states' distances' links
+    linked-refused a told = record {
+      answered = told ∙ a.wrote.answered;
+      result_left = result-after lent job result' (a.wrote.result_is ∙ ap (placed (replicate lent.result 0) 0) (nothing-left lent job (sym a.wrote.answered)));
+      states_left = a.states_left;
+      distances_size = a.distances_size;
+      links_size = refl;
+    }
 
-  module _ {links₁ : List Link} (listed : links₁ ≡ placed links 0 (links_in r.types distances')) where
-    abbrev ls : List Link
-    ls = verdict_links v
+    module _ {s : Sketch} (a : Unlinked job result states distances (length links) (Ok s) result' states' distances') where
+      outlined : Outlined lent job s distances'
+      outlined = a.wrote.outlined s refl
 
-    listed-is : links₁ ≡ placed links 0 ls
-    listed-is = listed ∙ ap (placed links 0) a.wrote.links_are
+      -- The links that the distance area tells can be listed in the table.
+      pub listable : Listable distances' s.types s.links links
+      listable =
+          let w = outlined in
+          record {
+            few = rw w.types_are fits.few;
+            counted = w.count_is ∙ ap length (sym w.links_are);
+            room = rw w.count_is fits.table-room;
+            cells = λ h. rw a.distances_size (fits.cells (rw w.count_is at h));
+          }
 
-    table-size : length links₁ ≡ length links
-    table-size = rw listed-is (length-placed links ls 0 (omega (arith, fits.table-room)))
+      module _ {links₁ : List Link} (listed : links₁ ≡ placed links 0 (links_in s.types distances')) where
+        abbrev ls : List Link
+        ls = verdict_links v
 
-    -- They can be written from there.
-    pub putable : (r.links ≤ length links₁) × (r.at + 6 * r.links ≤ length result')
-    putable =
-        let w = a.wrote in
-        let front = sketched (width job) v in
-        let size : length result' ≡ length result = rw w.result_is (length-placed _ front 0 (rw (length-replicate {A = ℕ}) (omega (arith, fits.result-room))) ∙ length-replicate _ _) in
-        (rw (table-size, w.count_is) fits.table-room, rw (w.at_is, w.count_is, size) fits.result-room)
+        listed-is : links₁ ≡ placed links 0 ls
+        listed-is = listed ∙ ap (placed links 0) outlined.links_are
 
-    -- Everything lent, after the call.
-    pub called : {result'' : Bytes} {distances'' : List ℕ} {links₂ : List Link} → result'' ≡ placed result' r.at (table_bytes r.links links₁) →
-        links₂ ≡ replicate (length links₁) no_link → distances'' ≡ replicate (length distances') 0 →
-        Called job result states distances links r.answer result'' states' distances'' links₂
-    called {result''} p c d =
-        let w = a.wrote in
-        let zeros : Bytes = replicate (length result) 0 in
-        let front = sketched (width job) v in
-        let part : table_bytes r.links links₁ ≡ table_bytes (length ls) ls = rw (w.count_is, listed-is) (table-part links ls) in
-        let whole : result'' ≡ placed zeros 0 (written (width job) v) = p ∙ rw (part, w.result_is, w.at_is) (completed zeros (width job) v) in
-        record {
-          served = record {
-            answered = w.answered;
-            result_left = result-after lent job result'' whole;
-            states_left = a.states_left;
-            distances_left = d ∙ ap (λ n. replicate n 0) a.distances_size;
-            links_left = c ∙ ap (λ n. replicate n no_link) table-size;
-          };
-        }
+        table-size : length links₁ ≡ length links
+        table-size = rw listed-is (length-placed links ls 0 (omega (arith, fits.table-room)))
+
+        -- They can be written from there.
+        pub putable : (s.links ≤ length links₁) × (s.at + 6 * s.links ≤ length result')
+        putable =
+            let w = outlined in
+            let front = sketched (width job) v in
+            let size : length result' ≡ length result =
+            rw a.wrote.result_is (length-placed _ front 0 (rw (length-replicate {A = ℕ}) (omega (arith, fits.result-room))) ∙ length-replicate _ _) in
+            (rw (table-size, w.count_is) fits.table-room, rw (w.at_is, w.count_is, size) fits.result-room)
+
+        -- The network with its links.
+        pub linked : {result'' : Bytes} → result'' ≡ placed result' s.at (table_bytes s.links links₁) →
+            Linked job result states distances links (Ok s.used) result'' states' distances' links₁
+        linked {result''} p =
+            let w = outlined in
+            let zeros : Bytes = replicate (length result) 0 in
+            let front = sketched (width job) v in
+            let part : table_bytes s.links links₁ ≡ table_bytes (length ls) ls = rw (w.count_is, listed-is) (table-part links ls) in
+            let whole : result'' ≡ placed zeros 0 (written (width job) v) = p ∙ rw (part, a.wrote.result_is, w.at_is) (completed zeros (width job) v) in
+            record {
+              answered = a.wrote.answered;
+              result_left = result-after lent job result'' whole;
+              states_left = a.states_left;
+              distances_size = a.distances_size;
+              links_size = table-size;
+            }
+
+-- Everything lent, after the call.
+pub called : {job result states result' states' : Bytes} {distances distances' distances'' : List ℕ} {links links' links'' : List Link} {r : Answer} →
+    Linked job result states distances links r result' states' distances' links' → links'' ≡ replicate (length links') no_link →
+    distances'' ≡ replicate (length distances') 0 → Called job result states distances links r result' states' distances'' links''
+called a c d = record {
+  served = record {
+    answered = a.answered;
+    result_left = a.result_left;
+    states_left = a.states_left;
+    distances_left = d ∙ ap (λ n. replicate n 0) a.distances_size;
+    links_left = c ∙ ap (λ n. replicate n no_link) a.links_size;
+  };
+}

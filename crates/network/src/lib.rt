@@ -6,15 +6,14 @@
 
 pub mod draw;
 
-ghost use Rattle.network.specs.Called.{Answered, Called, Unlinked};
+ghost use Rattle.network.specs.Called.{Answered, Called, Linked, Unlinked};
 
-use crate::draw::{Sketch, nothing};
-use answers::{first_of, tell};
+use crate::draw::Sketch;
 use job::areas::check_areas;
 use job::checks::check;
-use memory::{clear_bytes, clear_words};
+use memory::clear;
 use result::table::{clear_links, list_links, put_links};
-use rules::{Answer, Link};
+use rules::{Answer, Link, Refusal};
 
 // The refusals in the order they are tried, or the network up to its links. So many records of the link table are lent.
 fn refuse_or_draw(
@@ -23,16 +22,11 @@ fn refuse_or_draw(
     states: &mut [u8],
     distances: &mut [u16],
     links: usize,
-) -> Sketch
+) -> Result<Sketch, Refusal>
     ensures { Answered job.now res.old states.old distances.old links result res.new states.new distances.new }
 {
-    let area = check_areas(res.len(), states.len(), distances.len(), links);
-    let checked = check(job);
-    let first = first_of(area, checked);
-    let told = tell(first);
-    if told.number != 0 {
-        return nothing(first);
-    }
+    check_areas(res.len(), states.len(), distances.len(), links)?;
+    check(job)?;
     draw::draw(job, res, states, distances)
 }
 
@@ -43,16 +37,32 @@ fn sketch(
     states: &mut [u8],
     distances: &mut [u16],
     links: usize,
-) -> Sketch
+) -> Result<Sketch, Refusal>
     ensures { Unlinked job.now res.old states.old distances.old links result res.new states.new distances.new }
 {
-    clear_bytes(res);
+    clear(res, 0);
     let sketch = refuse_or_draw(job, res, states, distances, links);
-    clear_bytes(states);
+    clear(states, 0);
     sketch
 }
 
-// Every job, however damaged, gets an answer. The links go from the distance area to the table lent, and from there to the result.
+// The links go from the distance area to the table lent, and from there to the result.
+fn sketch_and_link(
+    job: &[u8],
+    res: &mut [u8],
+    states: &mut [u8],
+    distances: &mut [u16],
+    links: &mut [Link],
+) -> Answer
+    ensures { Linked job.now res.old states.old distances.old links.old result res.new states.new distances.new links.new }
+{
+    let drawn = sketch(job, res, states, distances, links.len())?;
+    list_links(distances, drawn.types, drawn.links, links);
+    put_links(links, drawn.links, res, drawn.at);
+    Ok(drawn.used)
+}
+
+// Every job, however damaged, gets an answer.
 pub fn call(
     job: &[u8],
     res: &mut [u8],
@@ -62,10 +72,8 @@ pub fn call(
 ) -> Answer
     ensures { Called job.now res.old states.old distances.old links.old result res.new states.new distances.new links.new }
 {
-    let drawn = sketch(job, res, states, distances, links.len());
-    list_links(distances, drawn.types, drawn.links, links);
-    put_links(links, drawn.links, res, drawn.at);
+    let answer = sketch_and_link(job, res, states, distances, links);
     clear_links(links);
-    clear_words(distances);
-    drawn.answer
+    clear(distances, 0);
+    answer
 }

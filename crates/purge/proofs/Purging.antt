@@ -1,5 +1,5 @@
 -- Purging, time after time: what memory holds whenever links were found, and what one time more makes of it.
-use mathlib.Core.Path.{◌≡◌, refl, sym, ap, ◌∙◌}
+use mathlib.Core.Path.{◌≡◌, sym, ap, ◌∙◌}
 use mathlib.Core.List.{List}
 use Prim.Native.Nat.{ℕ, ◌*◌, ◌≤◌, ◌<◌}
 use native.Mathlib.Omega.{arith}
@@ -47,22 +47,6 @@ pub record Purging (states₀ : Bytes) (area₀ : List ℕ) (held : Held) (state
   pub stays : Stays (staying area now.kinds now.state.types) stay
   pub since : (m : ℕ) (ws : List ℕ) (run : Run) → Holds m ws run states₀ area₀ held →
       TellsLinks ws (epsilon_in held) (rows_of run.current) area₀ → Since m ws (epsilon_in held) run states area now
-
-pub purging_none : {states : Bytes} {area area₀ : List ℕ} {held : Held} {stay : Stay} → held.state.types ≤ held.state.made →
-    held.state.made ≤ 128 → Surveyed area held area₀ stay → Purging states area₀ held states area₀ held stay
-purging_none within full s = record {
-  states_size = refl;
-  area_size = refl;
-  phase_stays = refl;
-  made_stays = refl;
-  rounds_stay = refl;
-  kinds_size = λ h. h;
-  no_more = omega arith;
-  within = within;
-  full = full;
-  stays = s.stays;
-  since = λ m ws run h t. record { after = run; holds = h; tells = t; same = refl };
-}
 
 module _ {states₀ states : Bytes} {area₀ area : List ℕ} {held now : Held} {stay : Stay}
     (p : Purging states₀ area₀ held states area now stay) where

@@ -4,16 +4,9 @@ use Rattle.graph.specs.Below.{gather, only}
 use Rattle.rules.specs.Sizes.{most_types}
 use Rattle.rules.specs.Types.{inferred}
 use Rattle.rules.specs.declared.Kind.{Kind}
-use Rattle.rules.specs.declared.Origin.{Origin}
-use Rattle.rules.specs.declared.Origin.TheVariants.{Sampled, Inferred}
 use Rattle.types.specs.State.{blank}
 use Rattle.links.specs.Marks.{mark_count}
 use Rattle.purge.specs.declared.stay.Stay.{Stay}
-
--- How many links a type needs to stay: three if it is inferred, and none if it is sampled.
-abbrev pub needed_by : Origin → ℕ
-needed_by (Sampled rows first) = 0
-needed_by (Inferred round) = 3
 
 -- Obsolete as memory tells it: an inferred type with at most two marks among t types.
 abbrev pub obsolete_in : List ℕ → ℕ → Kind → ℕ → Bool

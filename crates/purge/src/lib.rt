@@ -25,16 +25,13 @@ fn purge_once(states: &mut [u8], area: &mut [u16], held: Held, stay: Stay) -> He
     requires { Chosen stay.kept stay.count held.state.types × (held.state.types ≤ held.state.made) × (held.state.made ≤ most_types) × (state_area ≤ length states.old) × (distance_area ≤ length area.old) }
     ensures { Once states.old area.old held stay states.new area.new result }
 {
-    let state = held.state;
-    let kinds = held.kinds;
-    let kept = stay.kept;
-    let count = stay.count;
+    let Held { state, kinds } = held;
+    let Stay { kept, count } = stay;
     rows_left(states, &kept, count, state.types, state.made);
     distances_left(area, &kept, count, state.types);
-    let left = kinds_left(kinds, &kept, count);
     Held {
         state: state.keeping(count),
-        kinds: left,
+        kinds: kinds_left(kinds, &kept, count),
     }
 }
 
@@ -43,11 +40,9 @@ fn survey(area: &mut [u16], held: Held) -> Stay
     requires { (held.state.types ≤ most_types) × (epsilon_of held.state.phase ≤ 65535) × (distance_area ≤ length area.old) }
     ensures { Surveyed area.old held area.new result }
 {
-    let state = held.state;
-    let types = state.types;
-    find_links(area, types, state.epsilon());
-    let kinds = held.kinds;
-    survivors(area, types, kinds)
+    let Held { state, kinds } = held;
+    find_links(area, state.types, state.epsilon());
+    survivors(area, state.types, kinds)
 }
 
 // RULES 8.2: passes until nothing is obsolete, each with links of its own.
@@ -57,9 +52,9 @@ pub fn purge(states: &mut [u8], area: &mut [u16], held: Held) -> Held
 {
     let mut now = held;
     let mut stay = survey(area, now);
+    // no count: a pass may make other types obsolete
     while stay.count < now.state.types {
-        let next = purge_once(states, area, now, stay);
-        now = next;
+        now = purge_once(states, area, now, stay);
         stay = survey(area, now);
     }
     now

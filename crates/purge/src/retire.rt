@@ -8,23 +8,20 @@ ghost use Rattle.memory.specs.Placed.{placed};
 ghost use Rattle.distances.specs.Area.{CellsWritten, Line};
 ghost use Rattle.purge.specs.Left.{Chosen, Among, squeezed, KindsLeft, parted};
 
-use memory::copy;
 use rules::{Kind, LINE, MOST_TYPES, ROW};
-use types::{no_kinds, row_at};
+use types::no_kinds;
 
 // Line a of t types of which some stay.
 fn line_left(area: &mut [u16], kept: &[usize], count: usize, t: usize, a: usize)
     requires { Chosen kept.now count t × (a < t) × (t ≤ most_types) × (distance_area ≤ length area.old) }
     ensures { CellsWritten (Line a t) (squeezed kept.now count area.old) area.old area.new }
 {
-    let mut b = 0;
-    while b < t {
-        if a < b && b < count {
-            area[LINE * a + b] = area[LINE * kept[a] + kept[b]];
+    for b in 0..t {
+        area[LINE * a + b] = if a < b && b < count {
+            area[LINE * kept[a] + kept[b]]
         } else {
-            area[LINE * a + b] = 0;
-        }
-        b += 1;
+            0
+        };
     }
 }
 
@@ -33,10 +30,8 @@ pub fn distances_left(area: &mut [u16], kept: &[usize], count: usize, t: usize)
     requires { Chosen kept.now count t × (t ≤ most_types) × (distance_area ≤ length area.old) }
     ensures { CellsWritten (Among t) (squeezed kept.now count area.old) area.old area.new }
 {
-    let mut a = 0;
-    while a < t {
+    for a in 0..t {
         line_left(area, kept, count, t, a);
-        a += 1;
     }
 }
 
@@ -46,28 +41,19 @@ pub fn kinds_left(kinds: [Kind; MOST_TYPES], kept: &[usize], count: usize) -> [K
     ensures { KindsLeft kinds kept.now count result }
 {
     let mut left = no_kinds();
-    let mut a = 0;
-    while a < count {
-        let kind = kinds[kept[a]];
-        left[a] = kind;
-        a += 1;
+    for a in 0..count {
+        left[a] = kinds[kept[a]];
     }
     left
 }
 
 // Row i goes behind the other rows made, and those behind it move down.
+#[tactic(auto, using(crate::proofs::retire::Moved::turned))]
 fn to_the_end(states: &mut [u8], made: usize, i: usize)
     requires { (i < made) × (made ≤ most_types) × (row_size * made ≤ length states.old) }
     ensures { states.new ≡ placed states.old (row_size * i) (rows_from states.old (i + 1) made ++ stored_at states.old i) }
 {
-    let end = ROW * made - ROW;
-    let row = row_at(states, i);
-    let mut c = ROW * i;
-    while c < end {
-        states[c] = states[c + ROW];
-        c += 1;
-    }
-    copy(&row, states, end);
+    states[ROW * i..ROW * made].rotate_left(ROW);
 }
 
 // Of the first t rows made those at the places `kept` stay in front, and the others go behind all rows made.
@@ -76,13 +62,11 @@ pub fn rows_left(states: &mut [u8], kept: &[usize], count: usize, t: usize, made
     ensures { states.new ≡ placed states.old 0 (parted kept.now count t made states.old) }
 {
     let mut a = 0;
-    let mut i = 0;
-    while i < t {
+    for i in 0..t {
         if a < count && kept[a] == i {
             a += 1;
         } else {
             to_the_end(states, made, a);
         }
-        i += 1;
     }
 }

@@ -28,8 +28,7 @@ impl State {
     pub fn epsilon(self) -> usize
         ensures { result ≡ epsilon_of self.phase }
     {
-        let phase = self.phase;
-        match phase {
+        match self.phase {
             Phase::One { epsilon } => epsilon,
             Phase::Two => 0,
         }
@@ -59,10 +58,8 @@ impl State {
         ensures { result ≡ second_phase self }
     {
         State {
-            types: self.types,
-            made: self.made,
-            rounds: self.rounds,
             phase: Phase::Two,
+            ..self
         }
     }
 }

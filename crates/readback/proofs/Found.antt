@@ -1,5 +1,6 @@
 -- What is known of a job that is answered with a network: no refusal was given, and the network is what Phase II leaves of the
 -- state in which Phase I settles.
+use Rattle.std.specs.Prelude.{Err}
 use mathlib.Core.Path.{◌≡◌, refl, sym, ap, ◌∙◌}
 use mathlib.Core.Logic.{◌≢◌, ◌↔◌}
 use mathlib.Core.Bool.{Bool, true, false, cond, not}
@@ -9,15 +10,14 @@ use native.Mathlib.Omega.{arith}
 use lib.Dec.{eqb}
 use lib.ListN.{length, length-map}
 use borrow.Author.Tests.{eqb-true, eqb-false}
-use Rattle.rules.specs.Answers.{number, when◌refuse◌else◌, passed}
+use Rattle.rules.specs.Answers.{number, when◌refuse◌else◌, passed, Answer}
 use Rattle.rules.specs.Job.{Bytes, width, epsilon, weights, job_rows, checked}
 use Rattle.rules.specs.Lent.{Lent, area_short}
 use Rattle.rules.specs.Types.{rows_of, sampled, has_too_many, row129}
 use Rattle.rules.specs.Purge.{Run, purge}
 use Rattle.rules.specs.Run.{Outcome, settled, full, start, Network, phase_two, split}
 use Rattle.rules.specs.Call.{Verdict, refused, found, ◌then◌, ended, outcome, verdict, answer, answer_to}
-use Rattle.rules.specs.declared.Answer.{Answer}
-use Rattle.rules.specs.declared.Answer.TheVariants.{Area, Types, Room}
+use Rattle.rules.specs.declared.Refusal.TheVariants.{Area, Types, Room}
 use Rattle.rules.proofs.Ends.{phase_one_is}
 use Rattle.rules.proofs.Keeps.{made-count}
 use Rattle.rules.proofs.Job.{row-widths}
@@ -64,13 +64,13 @@ runs-outcome job h = phase_one_is (weights job) (epsilon job) (start (job_rows j
 pub found-is : (lent : Lent) (job : Bytes) (net : Network) → verdict lent job ≡ found net → Found lent job net
 unfolding verdict
 found-is lent job net e =
-    let a = passes_on (when area_short lent refuse Area else passed) _ e in
+    let a = passes_on (when area_short lent refuse Err Area else passed) _ e in
     let b = passes_on (checked job) _ a.1 in
-    let c = passes_on (when has_too_many (job_rows job) refuse Types (row129 (job_rows job)) else passed) _ b.1 in
-    let few = few-sampled (job_rows job) (unrefused _ (Types (row129 (job_rows job))) (omega arith) c.0) in
+    let c = passes_on (when has_too_many (job_rows job) refuse Err (Types (row129 (job_rows job))) else passed) _ b.1 in
+    let few = few-sampled (job_rows job) (unrefused _ (Err (Types (row129 (job_rows job)))) (omega arith) c.0) in
     let s = settles (outcome job) (runs-outcome job few) c.1 in
     record {
-      areas = unrefused _ Area (omega arith) a.0;
+      areas = unrefused _ (Err Area) (omega arith) a.0;
       checks = b.0;
       few = few;
       run = s.0;
@@ -105,15 +105,15 @@ then_numbered a v n = go (eqb (number a) 0) refl
     go false e = refuses_numbered a (eqb-false _ _ e)
 
 ended_numbered : (ws : List ℕ) (end : Outcome) → Numbered (ended ws end)
-ended_numbered ws (full round) = refuses_numbered (Room round) (omega arith)
+ended_numbered ws (full round) = refuses_numbered (Err (Room round)) (omega arith)
 ended_numbered ws (settled run) = rw (never_split-network ws run) (λ a e. absurd (differ (sym e)))
 
 pub verdict_numbered : (lent : Lent) (job : Bytes) → Numbered (verdict lent job)
 unfolding verdict
 verdict_numbered lent job =
-    then_numbered (when area_short lent refuse Area else passed) _
+    then_numbered (when area_short lent refuse Err Area else passed) _
     (then_numbered (checked job) _
-    (then_numbered (when has_too_many (job_rows job) refuse Types (row129 (job_rows job)) else passed) _
+    (then_numbered (when has_too_many (job_rows job) refuse Err (Types (row129 (job_rows job))) else passed) _
     (ended_numbered (weights job) (outcome job))))
 
 pub answered : (lent : Lent) (job : Bytes) → (number (answer lent job) ≡ 0) ↔ ((net : Network) × (verdict lent job ≡ found net))

@@ -1,5 +1,6 @@
 -- The result of every call: the block of the network found is bytes, fits the lent result, and gives the network when it is read
 -- back; and a refusal leaves zeros.
+use Rattle.std.specs.Prelude.{Ok}
 use mathlib.Core.Path.{◌≡◌, refl, ap, ◌∙◌}
 use mathlib.Core.Logic.{◌≢◌, ◌⊎◌, inl, inr, ⊎_elim}
 use mathlib.Core.Bool.{true, not}
@@ -19,7 +20,6 @@ use Rattle.rules.specs.Run.{Network, phase_two}
 use Rattle.rules.specs.Result.{block_length, record_of, block}
 use Rattle.rules.specs.Call.{Verdict, refused, found, verdict, answer, result_after}
 use Rattle.rules.specs.Lookup.{types_in, sampled_types, header_fits, lookup}
-use Rattle.rules.specs.declared.Answer.TheVariants.{Done}
 use Rattle.rules.proofs.Job.{Within, Passed, passed_is, state-within}
 use Rattle.rules.proofs.Distance.{distance-fits}
 use Rattle.rules.proofs.Links.{links_fit, links-at}
@@ -157,7 +157,7 @@ module _ (lent : Lent) (job : Bytes) (net : Network) (e : verdict lent job ≡ f
       let at = the_header job net writable f.checks (result_after lent job) in_front 7 (omega arith) in
       omega (arith, at, links-counted, stands_length in_front, length-block (width job) net (wide job net writable))
 
-  answer_is : answer lent job ≡ Done (length (block (width job) net))
+  answer_is : answer lent job ≡ (Ok (length (block (width job) net)))
   unfolding answer
   answer_is = rw e
 

@@ -16,12 +16,10 @@ fn count_line(area: &[u16], t: usize, i: usize) -> usize
     ensures { result ≡ length (line_of area.now t i) }
 {
     let mut n = 0;
-    let mut j = i + 1;
-    while j < t {
+    for j in i + 1..t {
         if linked(area, i, j) {
             n += 1;
         }
-        j += 1;
     }
     n
 }
@@ -32,25 +30,21 @@ pub fn count_links(area: &[u16], t: usize) -> usize
     ensures { result ≡ length (links_in t area.now) }
 {
     let mut n = 0;
-    let mut i = 0;
-    while i < t {
+    for i in 0..t {
         n += count_line(area, t, i);
-        i += 1;
     }
     n
 }
 
-// The first of t types, from one on, that is linked with type i; t if there is none.
+// The first of t types, from one on, that is linked with type i; t if there is none, which is where the line ends.
 fn next_in_line(area: &[u16], t: usize, i: usize, from: usize) -> usize
     requires { (distance_area ≤ length area.now) × (t ≤ most_types) × (i < from) × (from ≤ t) }
     ensures { Reached area.now t (links_before area.now t i from) i result }
 {
-    let mut j = from;
-    while j < t {
+    for j in from..t {
         if linked(area, i, j) {
             return j;
         }
-        j += 1;
     }
     t
 }
@@ -62,6 +56,7 @@ pub fn next_link(area: &[u16], t: usize, last: Link) -> Link
 {
     let mut i = last.low as usize;
     let mut j = next_in_line(area, t, i, last.high as usize + 1);
+    // no count: the next line that has a link is looked for
     while j == t {
         i += 1;
         j = next_in_line(area, t, i, i + 1);

@@ -28,14 +28,10 @@ pub fn sampled(t: usize, kinds: [Kind; MOST_TYPES]) -> usize
     ensures { (result ≡ sampled_of kinds t) × (result ≤ t) }
 {
     let mut sampled = 0;
-    let mut k = 0;
-    while k < t {
-        let kind = kinds[k];
-        let origin = kind.origin;
-        if let Origin::Sampled { rows: _, first: _ } = origin {
+    for k in 0..t {
+        if let Origin::Sampled { .. } = kinds[k].origin {
             sampled += 1;
         }
-        k += 1;
     }
     sampled
 }
@@ -45,11 +41,8 @@ pub fn put_records(t: usize, s: usize, kinds: [Kind; MOST_TYPES], out: &mut [u8]
     requires { (t ≤ most_types) × OriginsFit kinds t × (at + record_size * t ≤ length out.old) }
     ensures { out.new ≡ placed out.old at (records_of kinds t s) }
 {
-    let mut k = 0;
-    while k < t {
-        let index = if k < s { 0 } else { k - s };
-        put_record(kinds[k], index, out, at + RECORD_SIZE * k);
-        k += 1;
+    for k in 0..t {
+        put_record(kinds[k], k.saturating_sub(s), out, at + RECORD_SIZE * k);
     }
 }
 
@@ -58,10 +51,8 @@ pub fn put_inferred_rows(states: &[u8], m: usize, t: usize, s: usize, out: &mut 
     requires { (state_area ≤ length states.now) × (m ≤ most_width) × (t ≤ most_types) × (s ≤ t) × (at + (t - s) * m ≤ length out.old) }
     ensures { out.new ≡ placed out.old at (inferred_rows m states.now s (t - s)) }
 {
-    let mut k = s;
-    while k < t {
+    for k in s..t {
         let from = ROW * k;
         copy(&states[from..from + m], out, at + (k - s) * m);
-        k += 1;
     }
 }

@@ -9,24 +9,25 @@ ghost use Rattle.result.specs.Order.{no_link};
 ghost use Rattle.result.specs.Table.{Listable, link_bytes, table_bytes};
 
 use crate::ordered::next_link;
-use memory::put_three;
+use memory::{clear, put_three};
 use rules::{LINK_SIZE, Link};
+
+// No link: it stands before the first.
+const NONE: Link = Link {
+    low: 0,
+    high: 0,
+    length: 0,
+};
 
 // The n links of t types are listed, each behind the one before.
 pub fn list_links(area: &[u16], t: usize, n: usize, links: &mut [Link])
     requires { Listable area.now t n links.old }
     ensures { links.new ≡ placed links.old 0 (links_in t area.now) }
 {
-    let mut last = Link {
-        low: 0,
-        high: 0,
-        length: 0,
-    };
-    let mut k = 0;
-    while k < n {
+    let mut last = NONE;
+    for k in 0..n {
         last = next_link(area, t, last);
         links[k] = last;
-        k += 1;
     }
 }
 
@@ -49,10 +50,8 @@ pub fn put_links(links: &[Link], n: usize, out: &mut [u8], at: usize)
     requires { (n ≤ length links.now) × (at + link_size * n ≤ length out.old) }
     ensures { out.new ≡ placed out.old at (table_bytes n links.now) }
 {
-    let mut k = 0;
-    while k < n {
+    for k in 0..n {
         put_link(links[k], out, at, k);
-        k += 1;
     }
 }
 
@@ -60,14 +59,5 @@ pub fn put_links(links: &[Link], n: usize, out: &mut [u8], at: usize)
 pub fn clear_links(links: &mut [Link])
     ensures { links.new ≡ replicate (length links.old) no_link }
 {
-    let none = Link {
-        low: 0,
-        high: 0,
-        length: 0,
-    };
-    let mut i = 0;
-    while i < links.len() {
-        links[i] = none;
-        i += 1;
-    }
+    clear(links, NONE);
 }

@@ -3,7 +3,6 @@
 use mathlib.Core.Path.{◌≡◌, refl, sym, ap, subst, ◌∙◌}
 use mathlib.Core.Logic.Iff
 use mathlib.Core.Logic.{◌↔◌, ◌≢◌}
-use mathlib.Core.Bool.{true, false}
 use mathlib.Core.List.{List, [], map}
 use Prim.Native.Nat.{ℕ, ◌≤◌, ◌<◌}
 use native.Mathlib.Decide.{ℕ_discrete}
@@ -22,7 +21,7 @@ use Rattle.types.specs.State.{stored, laid}
 use Rattle.links.specs.Marks.{TellsLinks}
 use Rattle.purge.specs.declared.state.Held.{Held}
 use Rattle.sweep.specs.Candidate.{Candidate}
-use Rattle.round.specs.Fresh.{InWindow, All, Fresh}
+use Rattle.round.specs.Fresh.{InWindow, All, TooMany, Fitting}
 use Rattle.round.specs.declared.candidates.Added.{Added}
 use Rattle.round.specs.Rounded.{Carries, Crowded}
 use Rattle.round.proofs.Faithful.{current-wide, faithful}
@@ -75,37 +74,34 @@ module _ {weights : List ℕ} {m : ℕ} {ws : List ℕ} {run : Run} {states : By
         },
   )
 
-  module _ {r : Added} (found : Fresh weights states area held.state.types held.state.made e r) where
-    fresh-rows : (a : All weights states area held.state.types held.state.made e r) → a.xs ≡ map stored (fresh ws e run)
-    fresh-rows a = ascending-same a.xs _ a.ascends fresh-ascends (λ x. Iff.trans (a.exact x) (window x))
+  module _ {r : Added} (found : Fitting weights states area held.state.types held.state.made e r) where
+    all : All weights states area held.state.types held.state.made e r
+    all = found.all (faithful carries few)
+
+    fresh-rows : all.xs ≡ map stored (fresh ws e run)
+    fresh-rows = ascending-same all.xs _ all.ascends fresh-ascends (λ x. Iff.trans (all.exact x) (window x))
 
     -- All of them are found, and laid one behind the other.
-    module _ (room : r.full ≡ false) where
-      pub fresh-count : r.count ≡ length (fresh ws e run)
-      fresh-count =
-          let a = found.all (faithful carries few) room in
-          a.count_is ∙ rw (fresh-rows a) (length-map (fresh ws e run) stored)
+    pub fresh-count : r.count ≡ length (fresh ws e run)
+    fresh-count = all.count_is ∙ rw fresh-rows (length-map (fresh ws e run) stored)
 
-      pub fresh-laid : r.rows ≡ padded 8192 (laid (map stored (fresh ws e run)))
-      fresh-laid =
-          let a = found.all (faithful carries few) room in
-          a.rows_are ∙ rw (fresh-rows a)
+    pub fresh-laid : r.rows ≡ padded 8192 (laid (map stored (fresh ws e run)))
+    fresh-laid = all.rows_are ∙ rw fresh-rows
 
-      -- None where there is no offer, and else some.
-      pub no_offer : r.count ≡ 0 → offers ws e run ≡ []
-      no_offer z = elim (ℕ_discrete (length (offers ws e run)) 0) [
-        | yes h ↦ (empty (offers ws e run)).0 h
-        | no f ↦ absurd (added-some e (offers ws e run) (λ none. f ((empty _).1 none)) ((empty (fresh ws e run)).0 (sym fresh-count ∙ z)))
-      ]
+    -- None where there is no offer, and else some.
+    pub no_offer : r.count ≡ 0 → offers ws e run ≡ []
+    no_offer z = elim (ℕ_discrete (length (offers ws e run)) 0) [
+      | yes h ↦ (empty (offers ws e run)).0 h
+      | no f ↦ absurd (added-some e (offers ws e run) (λ none. f ((empty _).1 none)) ((empty (fresh ws e run)).0 (sym fresh-count ∙ z)))
+    ]
 
-      pub some_offer : 0 < r.count → offers ws e run ≢ []
-      some_offer h none = omega (arith, fresh-count, fresh-none none)
+    pub some_offer : 0 < r.count → offers ws e run ≢ []
+    some_offer h none = omega (arith, fresh-count, fresh-none none)
 
-    -- More were found than there is room for.
-    pub crowded : r.full ≡ true → Crowded ws e run
-    crowded full =
-        let t = found.too_many (faithful carries few) full in
-        let more = ascending-few t.xs (map stored (fresh ws e run)) t.ascends fresh-ascends (λ x h. (window x).0 (t.each x h)) in
-        let n = length-map (fresh ws e run) stored in
-        let all = carries.holds.made_are in
-        record { some = λ none. omega (arith, t.no_room, fresh-none none); no_room = omega (arith, t.no_room) }
+  -- More were found than there is room for.
+  pub crowded : TooMany weights states area held.state.types held.state.made e → Crowded ws e run
+  crowded t =
+      let more = ascending-few t.xs (map stored (fresh ws e run)) t.ascends fresh-ascends (λ x h. (window x).0 (t.each x h)) in
+      let n = length-map (fresh ws e run) stored in
+      let all = carries.holds.made_are in
+      record { some = λ none. omega (arith, t.no_room, fresh-none none); no_room = omega (arith, t.no_room) }

@@ -4,19 +4,23 @@ use mathlib.Core.Bool.{cond, ◌&&◌, and-eq-true_iff}
 use mathlib.Core.List.{List, [], ◌∷◌, ◌++◌, map}
 use Prim.Native.Nat.{ℕ, zero, suc, ◌+◌, ◌-◌, ◌≤◌, ◌<◌}
 use native.Mathlib.Nat.{not-suc-le-zero}
-use native.Mathlib.Decide.{ℕ_discrete, dec_le, dec_lt}
+use native.Mathlib.Decide.{dec_le, dec_lt}
 use native.Mathlib.Omega.{arith}
 use lib.Dec.{leb, ltb}
-use lib.ListN.{length, get_or, set, length-append, length-set, length-map, get_or-append, get_or-eq_default}
-use lib.Seq.{get_or-append-add, get_or-set_same, get_or-set_other, ext_get_or}
+use borrow.Rule.Slice.PartMut.{put_mid}
+use lib.ListN.{length, get_or, take, drop, replicate, length-append, length-drop, length-map, length-replicate, get_or-append, get_or-replicate, get_or-eq_default}
+use lib.Seq.{length-take-le, get_or-append-add, ext_get_or}
 use borrow.Author.Tests.{leb-true, ltb-true, le-leb, lt-ltb}
 use Rattle.graph.proofs.Below.{is_false, length-table, get_or-table}
+use Rattle.memory.specs.Placed.{placed}
+use Rattle.memory.proofs.Placed.{length-placed, get_or-placed, get_or-placed-before, get_or-placed-behind}
 use Rattle.rules.specs.Job.{Row}
 use Rattle.rules.specs.Types.{Node, node_at}
 use Rattle.rules.specs.declared.Kind.{Kind}
 use Rattle.rules.specs.declared.Origin.TheVariants.{Inferred}
 use Rattle.types.specs.State.{blank, kind_of, kinds_of}
 use Rattle.types.proofs.State.{kinds-at, kinds-is}
+use Rattle.purge.proofs.retire.Moved.{part-placed}
 use Rattle.round.specs.Grown.{kinds_with}
 
 -- The kind of a type inferred in a round, and such a type.
@@ -60,22 +64,22 @@ module _ (kinds : List Kind) (t count round : ℕ) where
         | no a ↦ old i h (λ e. omega arith) ∙ sym (with_old i h (λ e. omega arith))
       ])
 
--- None is stored yet, and one more is.
-pub with_none : (kinds : List Kind) (t round : ℕ) → length kinds ≡ 128 → kinds ≡ kinds_with kinds t (t - t) round
-with_none kinds t round n = with_is kinds t (t - t) round kinds n (λ i h a b. absurd (omega arith)) (λ i h other. refl)
-
-module _ (kinds : List Kind) (t k round : ℕ) where
-  pub with_more : (now : List Kind) → t ≤ k → k < 128 → now ≡ kinds_with kinds t (k - t) round →
-      set now k (inferred_in round) ≡ kinds_with kinds t (k + 1 - t) round
-  with_more now l h e =
-      let n : length now ≡ 128 = rw e (length_with kinds t (k - t) round) in
-      with_is kinds t (k + 1 - t) round _ (length-set now k (inferred_in round) ∙ n)
-      (λ i g a b. elim (ℕ_discrete i k) [
-        | yes s ↦ rw s (get_or-set_same now k (inferred_in round) blank (omega arith))
-        | no ne ↦ get_or-set_other now k i (inferred_in round) blank ne ∙ rw e (with_new kinds t (k - t) round i g a (omega arith))
-      ])
-      (λ i g other. get_or-set_other now k i (inferred_in round) blank (λ s. omega (arith, other (omega arith)))
-      ∙ rw e (with_old kinds t (k - t) round i g (λ a. omega (arith, other a))))
+-- So many stored behind the first t, through a slice of their own.
+pub with_filled : (kinds new : List Kind) (t count round : ℕ) → length kinds ≡ 128 → t + count ≤ 128 →
+    new ≡ replicate (length (take (t + count - t) (drop t kinds))) (inferred_in round) →
+    put_mid t (t + count - t) kinds new ≡ kinds_with kinds t count round
+with_filled kinds new t count round n room e =
+    let part = length-take-le (t + count - t) (drop t kinds) (rw length-drop (omega arith)) in
+    let size : length new ≡ count = ap length e ∙ length-replicate _ (inferred_in round) ∙ omega (arith, part) in
+    let is = part-placed kinds new t (t + count - t) (omega (arith, size)) in
+    is ∙ with_is kinds t count round _ (length-placed kinds new t (omega arith) ∙ n)
+    (λ i h a b. ap (λ (k : ℕ). get_or (placed kinds t new) k blank) (let at : i ≡ t + (i - t) = omega arith in at)
+    ∙ get_or-placed kinds new t (omega arith) (i - t) blank (omega arith)
+    ∙ ap (λ (xs : List Kind). get_or xs (i - t) blank) e ∙ get_or-replicate _ (i - t) (inferred_in round) blank (omega (arith, part)))
+    (λ i h other. elim (dec_lt i t) [
+      | yes l ↦ get_or-placed-before kinds new t (omega arith) i blank l
+      | no l ↦ get_or-placed-behind kinds new t (omega arith) i blank (omega (arith, other (omega arith)))
+    ])
 
 -- The kinds of types with new ones behind them.
 new-kind : (xs : List Row) (round j : ℕ) (d : Node) → j < length xs → kind_of (get_or (map (new_node round) xs) j d) ≡ inferred_in round

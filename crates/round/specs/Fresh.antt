@@ -1,5 +1,5 @@
 -- The rows that a round adds.
-use Rattle.std.specs.Prelude.{◌≡◌, ◌≢◌, ◌↔◌, true, false, cond, List, ℕ, ◌+◌, ◌*◌, ◌≤◌, ◌<◌, length, replicate}
+use Rattle.std.specs.Prelude.{◌≡◌, ◌≢◌, ◌↔◌, cond, List, ℕ, ◌+◌, ◌*◌, ◌≤◌, ◌<◌, length, Result, Ok, Err, MatchResult}
 use Rattle.graph.proofs.Below.{In}
 use Rattle.rules.specs.Sizes.{most_types, row_size, state_area, distance_area}
 use Rattle.rules.specs.Job.{Bytes}
@@ -14,16 +14,17 @@ use Rattle.sweep.specs.Candidate.{Candidate, Faithful}
 use Rattle.sweep.specs.Floors.{Floors}
 use Rattle.sweep.specs.declared.Survey.{Survey}
 use Rattle.round.specs.declared.candidates.Added.{Added}
+use Rattle.round.specs.declared.candidates.NoRoom.{NoRoom}
 
 -- So many rows; and no row, because there is no room.
-abbrev pub with_rows : Bytes → ℕ → Added
-with_rows rows count = record { rows = rows; count = count; full = false }
+abbrev pub with_rows : Bytes → ℕ → Result Added NoRoom
+with_rows rows count = Ok (record { rows = rows; count = count })
 
-abbrev pub none_fits : Added
-none_fits = record { rows = replicate state_area 0; count = 0; full = true }
+abbrev pub none_fits : Result Added NoRoom
+none_fits = Err (record {})
 
 -- What a search that gathered rows comes to.
-abbrev pub added_of : Bytes → Search → Added
+abbrev pub added_of : Bytes → Search → Result Added NoRoom
 added_of rows s = cond s.full none_fits (with_rows rows s.count)
 
 -- What it takes to choose a round's rows: n types are current, and who is linked with them is known.
@@ -63,9 +64,10 @@ pub record TooMany (ws : List ℕ) (states : Bytes) (area : List ℕ) (n made e 
   pub each : (x : Bytes) → In x xs → InWindow ws states area n made e x
   pub no_room : most_types < made + length xs
 
-pub record Fresh (ws : List ℕ) (states : Bytes) (area : List ℕ) (n made e : ℕ) (r : Added) : Type 0 where
+pub record Fitting (ws : List ℕ) (states : Bytes) (area : List ℕ) (n made e : ℕ) (r : Added) : Type 0 where
   pub size : length r.rows ≡ state_area
   pub room : made + r.count ≤ most_types
-  pub all : Faithful ws states area n → r.full ≡ false → All ws states area n made e r
-  pub too_many : Faithful ws states area n → r.full ≡ true → TooMany ws states area n made e
-  pub none_then : r.full ≡ true → (r.count ≡ 0) × (r.rows ≡ replicate state_area 0)
+  pub all : Faithful ws states area n → All ws states area n made e r
+
+pub record Fresh (ws : List ℕ) (states : Bytes) (area : List ℕ) (n made e : ℕ) (r : Result Added NoRoom) : Type 0 where
+  pub comes_to : MatchResult r (Fitting ws states area n made e) (λ _. Faithful ws states area n → TooMany ws states area n made e)

@@ -1,5 +1,5 @@
 -- What a round must do.
-use Rattle.std.specs.Prelude.{◌≡◌, ◌≢◌, true, false, List, [], ℕ, ◌+◌, ◌≤◌, ◌<◌, length, get_or}
+use Rattle.std.specs.Prelude.{◌≡◌, ◌≢◌, List, [], ℕ, ◌+◌, ◌≤◌, ◌<◌, length, get_or, Option, Result, MatchOption, MatchResult}
 use Rattle.rules.specs.Sizes.{most_width, most_types}
 use Rattle.rules.specs.Job.{Bytes}
 use Rattle.rules.specs.Types.{rows_of}
@@ -11,7 +11,7 @@ use Rattle.links.specs.Marks.{TellsLinks}
 use Rattle.purge.specs.State.{epsilon_of}
 use Rattle.purge.specs.Holds.{Holds}
 use Rattle.purge.specs.declared.state.Held.{Held}
-use Rattle.round.specs.declared.Turn.{Turn}
+use Rattle.round.specs.declared.candidates.NoRoom.{NoRoom}
 
 -- Memory holds a run, and the weights are those of its characters; each weighs something.
 pub record Carries (weights : List ℕ) (m : ℕ) (ws : List ℕ) (run : Run) (states : Bytes) (area : List ℕ) (held : Held) : Type 0 where
@@ -31,25 +31,37 @@ pub record Crowded (ws : List ℕ) (e : ℕ) (run : Run) : Type 0 where
   pub some : offers ws e run ≢ []
   pub no_room : most_types < length (made run) + length (fresh ws e run)
 
--- For memory that holds a run and tells its links at epsilon: no type is added where there is no candidate, or no room; else memory
--- holds the next run. Where no type is added, everything is as it was. Whatever memory holds, each type added counts as made.
-pub record Rounded (weights : List ℕ) (states : Bytes) (area : List ℕ) (held : Held) (states' : Bytes) (area' : List ℕ) (turn : Turn) : Type 0 where
+-- Types were added. Whatever memory holds, each of them counts as made; and memory that holds a run and tells its links at epsilon
+-- then holds the next run.
+pub record Adds (weights : List ℕ) (states : Bytes) (area : List ℕ) (held : Held) (states' : Bytes) (area' : List ℕ) (next : Held) : Type 0 where
+  pub phase_stays : next.state.phase ≡ held.state.phase
+  pub kinds_size : length next.kinds ≡ most_types
+  pub more : held.state.made < next.state.made
+  pub made_are : next.state.made + held.state.types ≡ held.state.made + next.state.types
+  pub few : next.state.made ≤ most_types
+  pub within : next.state.types ≤ next.state.made
+  pub rounds_few : next.state.rounds ≤ next.state.made
+  pub grows : (m : ℕ) (ws : List ℕ) (run : Run) → Carries weights m ws run states area held →
+      TellsLinks ws (epsilon_of held.state.phase) (rows_of run.current) area → Grows m ws (epsilon_of held.state.phase) run states' area' next
+
+-- No type was added, and everything is as it was: for such memory there is no candidate,
+pub record Settles (weights : List ℕ) (states : Bytes) (area : List ℕ) (held : Held) (states' : Bytes) (area' : List ℕ) : Type 0 where
+  pub states_stay : states' ≡ states
+  pub area_stays : area' ≡ area
+  pub none : (m : ℕ) (ws : List ℕ) (run : Run) → Carries weights m ws run states area held →
+      TellsLinks ws (epsilon_of held.state.phase) (rows_of run.current) area → offers ws (epsilon_of held.state.phase) run ≡ []
+
+-- or there is no room for them.
+pub record Crowds (weights : List ℕ) (states : Bytes) (area : List ℕ) (held : Held) (states' : Bytes) (area' : List ℕ) : Type 0 where
+  pub states_stay : states' ≡ states
+  pub area_stays : area' ≡ area
+  pub crowded : (m : ℕ) (ws : List ℕ) (run : Run) → Carries weights m ws run states area held →
+      TellsLinks ws (epsilon_of held.state.phase) (rows_of run.current) area → Crowded ws (epsilon_of held.state.phase) run
+
+-- What a round comes to.
+pub record Rounded (weights : List ℕ) (states : Bytes) (area : List ℕ) (held : Held) (states' : Bytes) (area' : List ℕ) (r : Result (Option Held) NoRoom) : Type 0 where
   pub states_size : length states' ≡ length states
   pub area_size : length area' ≡ length area
-  pub phase_stays : turn.held.state.phase ≡ held.state.phase
-  pub kinds_size : length turn.held.kinds ≡ most_types
-  pub made_are : turn.held.state.made ≡ held.state.made + turn.added
-  pub few : turn.held.state.made ≤ most_types
-  pub within : turn.held.state.types ≤ turn.held.state.made
-  pub rounds_few : turn.held.state.rounds ≤ turn.held.state.made
-  pub none_if_full : turn.full ≡ true → turn.added ≡ 0
-  pub as_it_was : turn.added ≡ 0 → (states' ≡ states) × (area' ≡ area) × (turn.held ≡ held)
-  pub settles : (m : ℕ) (ws : List ℕ) (run : Run) → Carries weights m ws run states area held →
-      TellsLinks ws (epsilon_of held.state.phase) (rows_of run.current) area → turn.added ≡ 0 → turn.full ≡ false →
-      offers ws (epsilon_of held.state.phase) run ≡ []
-  pub crowds : (m : ℕ) (ws : List ℕ) (run : Run) → Carries weights m ws run states area held →
-      TellsLinks ws (epsilon_of held.state.phase) (rows_of run.current) area → turn.full ≡ true →
-      Crowded ws (epsilon_of held.state.phase) run
-  pub grows : (m : ℕ) (ws : List ℕ) (run : Run) → Carries weights m ws run states area held →
-      TellsLinks ws (epsilon_of held.state.phase) (rows_of run.current) area → 0 < turn.added →
-      Grows m ws (epsilon_of held.state.phase) run states' area' turn.held
+  pub comes_to : MatchResult r
+      (λ next. MatchOption next (Settles weights states area held states' area') (Adds weights states area held states' area'))
+      (λ _. Crowds weights states area held states' area')

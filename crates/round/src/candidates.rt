@@ -6,33 +6,23 @@ ghost use Rattle.rules.specs.Sizes.{most_types, state_area};
 ghost use Rattle.medians.specs.Guesses.{guesses_size};
 ghost use Rattle.medians.specs.Search.{for_lambda};
 ghost use Rattle.sweep.specs.Candidate.{Remembered};
-ghost use Rattle.round.specs.Fresh.{none_fits, added_of, Choosing, LambdaSought, Fresh};
+ghost use Rattle.round.specs.Fresh.{added_of, Choosing, LambdaSought, Fresh};
 
 use crate::ascending::ascending;
 use medians::guesses::guess_all;
 use medians::search::{ABOVE_ALL_COSTS, Search};
 use rules::{MOST_TYPES, STATE_AREA};
-use sweep::{Size, Survey, sweep};
+use sweep::{Known, Size, Survey, sweep};
 
-// The rows that a round adds, ascending, with zeros behind them; or no room for them.
-#[derive(Clone, Copy)]
+// The rows that a round adds, ascending, with zeros behind them: an array and a count, since there is no heap.
 pub struct Added {
     pub rows: [u8; STATE_AREA],
     pub count: usize,
-    pub full: bool,
 }
 
-// No row is added, because there is no room.
-fn none_fits() -> Added
-    ensures { result ≡ none_fits }
-{
-    let rows = [0u8; STATE_AREA];
-    Added {
-        rows,
-        count: 0,
-        full: true,
-    }
-}
+// There are more rows to add than there is room for.
+#[derive(Clone, Copy)]
+pub struct NoRoom;
 
 // A second sweep is within a window: what the first one came to, and epsilon.
 #[derive(Clone, Copy)]
@@ -45,31 +35,25 @@ struct Window {
 fn seeking(size: Size, made: usize) -> Survey
     ensures { (result.size ≡ size) × (result.search ≡ for_lambda made) × (result.floors ≡ replicate most_types 0) }
 {
-    let search = Search::for_lambda(made);
-    let floors = [0usize; MOST_TYPES];
     Survey {
         size,
-        search,
-        floors,
+        search: Search::for_lambda(made),
+        floors: [0; MOST_TYPES],
     }
 }
 
 // The second sweep: all candidates of a cost of at most lambda and epsilon are gathered and put into order, in memory that is zero. Where
 // there is no candidate, nothing is.
 fn gather_window(
-    states: &[u8],
-    area: &[u16],
-    weights: &[u16],
-    next: &[u16],
+    known: &Known,
     mismatches: &mut [u64],
-    hints: &[u64],
     rows: &mut [u8],
     guesses: &mut [u16],
     window: Window,
 ) -> Search
-    requires { Choosing states.now area.now weights.now next.now window.least.size.types window.least.search.made × (window.epsilon ≤ 65535)
-        × Remembered states.now mismatches.old window.least.size.width window.least.search.made × (length guesses.old ≡ guesses_size) × LambdaSought weights.now states.now area.now window.least × (rows.old ≡ replicate state_area 0) }
-    ensures { Fresh weights.now states.now area.now window.least.size.types window.least.search.made window.epsilon (added_of rows.new result) }
+    requires { Choosing known.now.states.now known.now.area.now known.now.weights.now known.now.next.now window.least.size.types window.least.search.made × (window.epsilon ≤ 65535)
+        × Remembered known.now.states.now mismatches.old window.least.size.width window.least.search.made × (length guesses.old ≡ guesses_size) × LambdaSought known.now.weights.now known.now.states.now known.now.area.now window.least × (rows.old ≡ replicate state_area 0) }
+    ensures { Fresh known.now.weights.now known.now.states.now known.now.area.now window.least.size.types window.least.search.made window.epsilon (added_of rows.new result) }
 {
     let least = window.least;
     let lambda = least.search.below;
@@ -77,74 +61,45 @@ fn gather_window(
         return Search::for_all(least.search.made, 0);
     }
     let search = Search::for_all(least.search.made, lambda + window.epsilon + 1);
-    let all = sweep(
-        states,
-        area,
-        weights,
-        next,
-        mismatches,
-        hints,
-        rows,
-        guesses,
-        least.again(search),
-    );
+    let all = sweep(known, mismatches, rows, guesses, least.again(search));
     ascending(rows, all.search.count);
     all.search
-}
-
-// What a search that gathered comes to: so many rows, or no room for them.
-fn come_to(rows: [u8; STATE_AREA], search: Search) -> Added
-    ensures { result ≡ added_of rows search }
-{
-    if search.full {
-        return none_fits();
-    }
-    Added {
-        rows,
-        count: search.count,
-        full: false,
-    }
 }
 
 // All candidates of a cost of at most lambda and epsilon, each once, ascending by their bytes; who is linked with the current types is
 // known.
 pub fn choose(
-    states: &[u8],
-    area: &[u16],
-    weights: &[u16],
-    next: &[u16],
+    known: &Known,
     mismatches: &mut [u64],
-    hints: &[u64],
     size: Size,
     made: usize,
     epsilon: usize,
-) -> Added
-    requires { Choosing states.now area.now weights.now next.now size.types made × (epsilon ≤ 65535) × Remembered states.now mismatches.old size.width made }
-    ensures { Fresh weights.now states.now area.now size.types made epsilon result }
+) -> Result<Added, NoRoom>
+    requires { Choosing known.now.states.now known.now.area.now known.now.weights.now known.now.next.now size.types made × (epsilon ≤ 65535) × Remembered known.now.states.now mismatches.old size.width made }
+    ensures { Fresh known.now.weights.now known.now.states.now known.now.area.now size.types made epsilon result }
 {
-    let mut guesses = guess_all(states, made);
+    // The rows are made before the guesses: behind them, they would be filled with zeros twice.
     let mut rows = [0u8; STATE_AREA];
+    let mut guesses = guess_all(known.states, made);
     let least = sweep(
-        states,
-        area,
-        weights,
-        next,
+        known,
         mismatches,
-        hints,
         &mut rows,
         &mut guesses,
         seeking(size, made),
     );
     let all = gather_window(
-        states,
-        area,
-        weights,
-        next,
+        known,
         mismatches,
-        hints,
         &mut rows,
         &mut guesses,
         Window { least, epsilon },
     );
-    come_to(rows, all)
+    if all.full {
+        return Err(NoRoom);
+    }
+    Ok(Added {
+        rows,
+        count: all.count,
+    })
 }

@@ -6,10 +6,10 @@ ghost use Rattle.rules.specs.Sizes.{most_types, row_size, distance_area};
 ghost use Rattle.distances.specs.Area.{Weighed};
 ghost use Rattle.round.specs.Fresh.{Choosing, Fresh};
 
-use crate::candidates::{Added, choose};
+use crate::candidates::{Added, NoRoom, choose};
 use links::link_count;
 use rules::{DISTANCE_AREA, MOST_WIDTH};
-use sweep::Size;
+use sweep::{Known, Size};
 use triplets::hints::HINTS;
 use triplets::{FOLLOWERS, followers};
 
@@ -22,7 +22,7 @@ fn choose_with_mismatches(
     n: usize,
     made: usize,
     epsilon: usize,
-) -> Added
+) -> Result<Added, NoRoom>
     requires { Choosing states.now area.now weights.now next.now n made × (epsilon ≤ 65535) }
     ensures { Fresh weights.now states.now area.now n made epsilon result }
 {
@@ -31,20 +31,18 @@ fn choose_with_mismatches(
     let m = triplets::mismatches::width_in_use(states, made);
     triplets::hints::hints(states, &mut hints, m, made);
     let size = Size { width: m, types: n };
-    choose(
+    let known = Known {
         states,
         area,
         weights,
         next,
-        &mut mismatches,
-        &hints,
-        size,
-        made,
-        epsilon,
-    )
+        hints: &hints,
+    };
+    choose(&known, &mut mismatches, size, made, epsilon)
 }
 
-// The same, with no memory for them: every triplet that can matter is visited.
+// The same, with no memory for them: every triplet that can matter is visited. This is no other size of the function above, since there are
+// no hints here, and large memory is made wherever a function begins that has it.
 fn choose_without_mismatches(
     states: &[u8],
     area: &[u16],
@@ -53,7 +51,7 @@ fn choose_without_mismatches(
     n: usize,
     made: usize,
     epsilon: usize,
-) -> Added
+) -> Result<Added, NoRoom>
     requires { Choosing states.now area.now weights.now next.now n made × (epsilon ≤ 65535) }
     ensures { Fresh weights.now states.now area.now n made epsilon result }
 {
@@ -63,17 +61,14 @@ fn choose_without_mismatches(
         width: MOST_WIDTH,
         types: n,
     };
-    choose(
+    let known = Known {
         states,
         area,
         weights,
         next,
-        &mut mismatches,
-        &hints,
-        size,
-        made,
-        epsilon,
-    )
+        hints: &hints,
+    };
+    choose(&known, &mut mismatches, size, made, epsilon)
 }
 
 // Whether the types have some four links each, so that mismatches of rows are worth their making: either answer is right. Of one type in four
@@ -82,10 +77,8 @@ fn many_links(area: &[u16], n: usize) -> bool
     requires { (n ≤ most_types) × (distance_area ≤ length area.now) }
 {
     let mut links = 0usize;
-    let mut i = 0;
-    while i < n {
+    for i in (0..n).step_by(4) {
         links += link_count(area, i, i);
-        i += 4;
     }
     n <= 2 * links
 }
@@ -98,7 +91,7 @@ pub fn fresh(
     n: usize,
     made: usize,
     epsilon: usize,
-) -> Added
+) -> Result<Added, NoRoom>
     requires { Weighed weights.now × (n ≤ made) × (made ≤ most_types) × (epsilon ≤ 65535) × (row_size * made ≤ length states.now) × (distance_area ≤ length area.now) }
     ensures { Fresh weights.now states.now area.now n made epsilon result }
 {

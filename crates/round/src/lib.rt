@@ -17,20 +17,14 @@ ghost use Rattle.round.specs.Grown.{kinds_with, Grew};
 ghost use Rattle.round.specs.Rounded.{Rounded};
 ghost use Rattle.types.specs.State.{rows_from};
 
+use crate::candidates::{Added, NoRoom};
 use distances::measure;
 use memory::copy;
 use purge::state::Held;
 use rules::{Kind, MOST_TYPES, Origin, ROW, STATE_AREA};
 
-// What a round comes to: the run's state, and how many types were added; none are where there is no candidate, or no room.
-#[derive(Clone, Copy)]
-pub struct Turn {
-    pub held: Held,
-    pub added: usize,
-    pub full: bool,
-}
-
-// The rows added go between the t current ones and those retired.
+// The rows added go between the t current ones and those retired. They are taken by value: lent, and with copy_within for those retired,
+// a small job takes 9% more instructions.
 fn insert_rows(states: &mut [u8], rows: [u8; STATE_AREA], count: usize, t: usize, made: usize)
     requires { (t ≤ made) × (made + count ≤ most_types) × (length rows ≡ state_area) × (state_area ≤ length states.old) }
     ensures { states.new ≡ placed states.old (row_size * t) (take (row_size * count) rows ++ rows_from states.old t made) }
@@ -48,16 +42,10 @@ fn put_kinds(kinds: [Kind; MOST_TYPES], t: usize, count: usize, round: usize) ->
     requires { (t + count ≤ most_types) × (length kinds ≡ most_types) }
     ensures { result ≡ kinds_with kinds t count round }
 {
-    let new = Kind {
-        origin: Origin::Inferred { round },
-    };
-    let end = t + count;
     let mut all = kinds;
-    let mut k = t;
-    while k < end {
-        all[k] = new;
-        k += 1;
-    }
+    all[t..t + count].fill(Kind {
+        origin: Origin::Inferred { round },
+    });
     all
 }
 
@@ -75,47 +63,41 @@ fn add_types(
         × (state_area ≤ length states.old) × (distance_area ≤ length area.old) }
     ensures { Grew weights.now states.old area.old held rows count states.new area.new result }
 {
-    let state = held.state;
+    let Held { state, kinds } = held;
     let t = state.types;
     insert_rows(states, rows, count, t, state.made);
     measure(states, area, weights, t, t + count);
-    let kinds = held.kinds;
-    let all = put_kinds(kinds, t, count, state.rounds + 1);
     Held {
         state: state.grown(count),
-        kinds: all,
+        kinds: put_kinds(kinds, t, count, state.rounds + 1),
     }
 }
 
-// A round: all candidates of a cost of at most lambda and epsilon are added. The links of the current types stand in the area.
-pub fn round(states: &mut [u8], area: &mut [u16], weights: &[u16], held: Held) -> Turn
+// A round: all candidates of a cost of at most lambda and epsilon are added. The links of the current types stand in the area. Hands
+// back the run's next state, or none where there is no candidate. Where there is none, or no room for them, everything is as it was.
+pub fn round(
+    states: &mut [u8],
+    area: &mut [u16],
+    weights: &[u16],
+    held: Held,
+) -> Result<Option<Held>, NoRoom>
     requires { Weighed weights.now × (held.state.types ≤ held.state.made) × (held.state.made ≤ most_types)
         × (held.state.rounds ≤ held.state.made) × (length held.kinds ≡ most_types) × (epsilon_of held.state.phase ≤ 65535)
         × (state_area ≤ length states.old) × (distance_area ≤ length area.old) }
     ensures { Rounded weights.now states.old area.old held states.new area.new result }
 {
     let state = held.state;
-    let new = fresh::fresh(
+    let Added { rows, count } = fresh::fresh(
         states,
         area,
         weights,
         state.types,
         state.made,
         state.epsilon(),
-    );
-    let count = new.count;
+    )?;
     if count == 0 {
-        return Turn {
-            held,
-            added: 0,
-            full: new.full,
-        };
+        return Ok(None);
     }
-    let rows = new.rows;
     let next = add_types(states, area, weights, held, rows, count);
-    Turn {
-        held: next,
-        added: count,
-        full: false,
-    }
+    Ok(Some(next))
 }

@@ -1,4 +1,5 @@
 -- The rows, weights and states of a job, and what is known of a job that passes the refusals 2 to 7: every test's negation, by name.
+use Rattle.std.specs.Prelude.{Err}
 use mathlib.Core.Path.{◌≡◌, refl, sym, ◌∙◌}
 use mathlib.Core.Logic.{◌≢◌, inl, inr}
 use mathlib.Core.Bool.{Bool, true, false, not, true≢false}
@@ -12,11 +13,10 @@ use native.Mathlib.Omega.{arith}
 use borrow.Author.Tests.{le-ltb, ltb-false, eqb-true, not-false}
 use Rattle.graph.specs.Below.{table, first}
 use Rattle.graph.proofs.Below.{is_false, or_true, first-before, length-table, get_or-table}
-use Rattle.rules.specs.Answers.{number, when◌refuse◌else◌}
+use Rattle.rules.specs.Answers.{number, when◌refuse◌else◌, Answer}
 use Rattle.rules.specs.Job.{Bytes, word, rows, width, weights_offset, states_offset, whole_length, weight_at, weights, state_at, outside, bad_weight, bad_state, checked, job_row, job_rows}
 use Rattle.rules.specs.Types.{row_at}
-use Rattle.rules.specs.declared.Answer.{Answer}
-use Rattle.rules.specs.declared.Answer.TheVariants.{Head, Rows, Width, Layout, Weight, State}
+use Rattle.rules.specs.declared.Refusal.TheVariants.{Head, Rows, Width, Layout, Weight, State}
 
 pub record Within (low high x : ℕ) : Type 0 where
   pub at_least : low ≤ x
@@ -58,15 +58,15 @@ all-within n low high f e i h =
 pub passed_is : (job : Bytes) → number (checked job) ≡ 0 → Passed job
 unfolding checked bad_weight bad_state
 passed_is job e =
-    let s1 = not-refused (ltb (length job) 12) Head _ e (omega arith) in
-    let s2 = not-refused (outside 1 256 (rows job)) Rows _ s1.1 (omega arith) in
-    let s3 = not-refused (outside 1 64 (width job)) Width _ s2.1 (omega arith) in
-    let s4 = not-refused (not (eqb (word job 6) weights_offset)) (Layout 6) _ s3.1 (omega arith) in
-    let s5 = not-refused (not (eqb (word job 8) (states_offset job))) (Layout 8) _ s4.1 (omega arith) in
-    let s6 = not-refused (not (eqb (word job 10) (whole_length job))) (Layout 10) _ s5.1 (omega arith) in
-    let s7 = not-refused (not (eqb (length job) (whole_length job))) (Layout 12) _ s6.1 (omega arith) in
-    let s8 = not-refused (ltb (bad_weight job) (width job)) (Weight (bad_weight job)) _ s7.1 (omega arith) in
-    let s9 = not-refused (ltb (bad_state job) (rows job * width job)) (State (bad_state job)) _ s8.1 (omega arith) in
+    let s1 = not-refused (ltb (length job) 12) (Err Head) _ e (omega arith) in
+    let s2 = not-refused (outside 1 256 (rows job)) (Err Rows) _ s1.1 (omega arith) in
+    let s3 = not-refused (outside 1 64 (width job)) (Err Width) _ s2.1 (omega arith) in
+    let s4 = not-refused (not (eqb (word job 6) weights_offset)) (Err (Layout 6)) _ s3.1 (omega arith) in
+    let s5 = not-refused (not (eqb (word job 8) (states_offset job))) (Err (Layout 8)) _ s4.1 (omega arith) in
+    let s6 = not-refused (not (eqb (word job 10) (whole_length job))) (Err (Layout 10)) _ s5.1 (omega arith) in
+    let s7 = not-refused (not (eqb (length job) (whole_length job))) (Err (Layout 12)) _ s6.1 (omega arith) in
+    let s8 = not-refused (ltb (bad_weight job) (width job)) (Err (Weight (bad_weight job))) _ s7.1 (omega arith) in
+    let s9 = not-refused (ltb (bad_state job) (rows job * width job)) (Err (State (bad_state job))) _ s8.1 (omega arith) in
     record {
       head = ltb-false _ _ s1.0;
       rows-within = within 1 256 _ s2.0;

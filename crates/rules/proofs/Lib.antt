@@ -1,3 +1,4 @@
+pub mod Answers
 pub mod Job
 pub mod Rows
 pub mod Ascending

@@ -1,13 +1,12 @@
 -- RULES 4.2 and 3.3: what a job is answered, and what all lent memory holds afterwards.
-use Rattle.std.specs.Prelude.{◌≡◌, cond, List, [], ◌++◌, ℕ, ◌-◌, eqb, length, replicate}
-use Rattle.rules.specs.Answers.{number, when◌refuse◌else◌, passed}
+use Rattle.std.specs.Prelude.{◌≡◌, cond, List, [], ◌++◌, ℕ, ◌-◌, eqb, length, replicate, Ok, Err}
+use Rattle.rules.specs.Answers.{number, when◌refuse◌else◌, passed, Answer}
 use Rattle.rules.specs.Job.{Bytes, width, epsilon, weights, job_rows, checked}
 use Rattle.rules.specs.Lent.{Lent, area_short}
 use Rattle.rules.specs.Types.{has_too_many, row129}
 use Rattle.rules.specs.Run.{Outcome, settled, full, start, phase_one, Network, phase_two, split}
 use Rattle.rules.specs.Result.{block}
-use Rattle.rules.specs.declared.Answer.{Answer}
-use Rattle.rules.specs.declared.Answer.TheVariants.{Done, Area, Types, Room, Split}
+use Rattle.rules.specs.declared.Refusal.TheVariants.{Area, Types, Room, Split}
 use Rattle.rules.specs.declared.Link.{Link}
 
 -- RULES 4.2: a job is refused, or has a network.
@@ -17,11 +16,11 @@ pub data Verdict : Type 0 where
 
 -- RULES 4.3 (SPLIT): what becomes of a job whose run has come to its network.
 abbrev pub concluded : Network → Verdict
-concluded net = cond (split net) (refused Split) (found net)
+concluded net = cond (split net) (refused (Err Split)) (found net)
 
 -- RULES 4.3 (ROOM), 12.2: what becomes of a job whose Phase I has ended.
 abbrev pub ended : List ℕ → Outcome → Verdict
-ended ws (full round) = refused (Room round)
+ended ws (full round) = refused (Err (Room round))
 ended ws (settled run) = concluded (phase_two ws run)
 
 -- RULES 12.1: how Phase I ends for a job.
@@ -36,9 +35,9 @@ a then next = cond (eqb (number a) 0) next (refused a)
 -- RULES 4.2: all refusals in their order: 1; 2 to 7; 8; 9 and 10.
 unfoldable pub verdict : Lent → Bytes → Verdict
 verdict lent job =
-    (when area_short lent refuse Area else passed) then
+    (when area_short lent refuse Err Area else passed) then
     checked job then
-    (when has_too_many (job_rows job) refuse Types (row129 (job_rows job)) else passed) then
+    (when has_too_many (job_rows job) refuse Err (Types (row129 (job_rows job))) else passed) then
     ended (weights job) (outcome job)
 
 -- RULES 3.3: the bytes written: those of the network's block, or none.
@@ -49,7 +48,7 @@ written m (found net) = block m net
 -- RULES 4.1: the answer.
 abbrev pub answer_to : ℕ → Verdict → Answer
 answer_to m (refused a) = a
-answer_to m (found net) = Done (length (block m net))
+answer_to m (found net) = Ok (length (block m net))
 
 unfoldable pub answer : Lent → Bytes → Answer
 answer lent job = answer_to (width job) (verdict lent job)

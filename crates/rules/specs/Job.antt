@@ -1,10 +1,9 @@
 -- RULES 2: the job block. RULES 4.4: checks 2 to 7, for which the job alone is looked at.
-use Rattle.std.specs.Prelude.{Bool, not, ◌||◌, List, ℕ, ◌+◌, ◌*◌, ltb, eqb, length, get_or}
+use Rattle.std.specs.Prelude.{Bool, not, ◌||◌, List, ℕ, ◌+◌, ◌*◌, ltb, eqb, length, get_or, Err}
 use Rattle.graph.specs.Below.{table, first}
 use Rattle.rules.specs.Sizes.{most_rows, most_width, most_weight, first_state, last_state, job_head}
-use Rattle.rules.specs.Answers.{when◌refuse◌else◌, passed}
-use Rattle.rules.specs.declared.Answer.{Answer}
-use Rattle.rules.specs.declared.Answer.TheVariants.{Head, Rows, Width, Layout, Weight, State}
+use Rattle.rules.specs.Answers.{when◌refuse◌else◌, passed, Answer}
+use Rattle.rules.specs.declared.Refusal.TheVariants.{Head, Rows, Width, Layout, Weight, State}
 
 -- RULES 1.3: blocks and texts.
 abbrev pub Bytes : Type 0
@@ -70,13 +69,13 @@ bad_state job = first (rows job * width job) (λ i. outside first_state last_sta
 -- RULES 4.3 to 4.6: checks 2 to 7, each tried if those above it let the job pass.
 unfoldable pub checked : Bytes → Answer
 checked job =
-    when ltb (length job) job_head refuse Head else
-    when outside 1 most_rows (rows job) refuse Rows else
-    when outside 1 most_width (width job) refuse Width else
-    when not (eqb (word job 6) weights_offset) refuse Layout 6 else
-    when not (eqb (word job 8) (states_offset job)) refuse Layout 8 else
-    when not (eqb (word job 10) (whole_length job)) refuse Layout 10 else
-    when not (eqb (length job) (whole_length job)) refuse Layout 12 else
-    when ltb (bad_weight job) (width job) refuse Weight (bad_weight job) else
-    when ltb (bad_state job) (rows job * width job) refuse State (bad_state job) else
+    when ltb (length job) job_head refuse Err Head else
+    when outside 1 most_rows (rows job) refuse Err Rows else
+    when outside 1 most_width (width job) refuse Err Width else
+    when not (eqb (word job 6) weights_offset) refuse Err (Layout 6) else
+    when not (eqb (word job 8) (states_offset job)) refuse Err (Layout 8) else
+    when not (eqb (word job 10) (whole_length job)) refuse Err (Layout 10) else
+    when not (eqb (length job) (whole_length job)) refuse Err (Layout 12) else
+    when ltb (bad_weight job) (width job) refuse Err (Weight (bad_weight job)) else
+    when ltb (bad_state job) (rows job * width job) refuse Err (State (bad_state job)) else
     passed

@@ -68,10 +68,9 @@ pub struct Link {
     pub length: u16,
 }
 
-// RULES 4.1: what a job is answered: a network of so many bytes, or one of the refusals, which stand here in their order.
-#[derive(Clone, Copy)]
-pub enum Answer {
-    Done { used: usize },
+// RULES 4.1: why a job is refused. The refusals stand in their order.
+#[derive(Clone, Copy, PartialEq, Eq, Debug)]
+pub enum Refusal {
     Area,
     Head,
     Rows,
@@ -83,3 +82,6 @@ pub enum Answer {
     Room { place: usize },
     Split,
 }
+
+// RULES 4.1: what a job is answered: a network of so many bytes, or a refusal.
+pub type Answer = Result<usize, Refusal>;

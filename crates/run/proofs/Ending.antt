@@ -8,15 +8,14 @@ use lib.ListN.{length, replicate, length-replicate}
 use Rattle.rules.specs.Job.{Bytes}
 use Rattle.rules.specs.Purge.{Run, purge}
 use Rattle.rules.specs.Run.{Outcome, settled, full}
-use Rattle.rules.specs.declared.Answer.TheVariants.{Done, Room}
+use Rattle.rules.specs.declared.Refusal.TheVariants.{Room}
 use Rattle.rules.proofs.Keeps.{made-count}
 use Rattle.rules.proofs.Ends.{phase_same}
 use Rattle.purge.specs.State.{second_phase}
 use Rattle.purge.specs.Holds.{Holds, Purged}
 use Rattle.purge.specs.declared.state.Held.{Held}
-use Rattle.round.specs.declared.Turn.{Turn}
-use Rattle.run.specs.Begun.{refused_with}
-use Rattle.run.specs.declared.start.Ended.{Ended}
+use Rattle.std.specs.Prelude.{Result, Ok, Err, IsOk, IsErr}
+use Rattle.round.specs.declared.candidates.NoRoom.{NoRoom}
 use Rattle.run.specs.Phases.{PhaseOneOver, NetworkHeld, PhasesOver}
 
 -- An outcome is one of two: a round that had no room, by its number, or a run.
@@ -51,17 +50,17 @@ second_holds h = record {
   rest_zero = h.rest_zero;
 }
 
-module _ {weights : List ℕ} {states states' states'' : Bytes} {area area' area'' : List ℕ} {held : Held} {turn : Turn}
-    (over : PhaseOneOver weights states area held states' area' turn) where
+module _ {weights : List ℕ} {states states' states'' : Bytes} {area area' area'' : List ℕ} {held last : Held} {end : Result (Unit {0}) NoRoom}
+    (over : PhaseOneOver weights states area held states' area' last end) where
   -- A round had no room: both areas are cleared.
-  pub ended-full : turn.full ≡ true → states'' ≡ replicate (length states') 0 → area'' ≡ replicate (length area') 0 →
-      PhasesOver weights states area held states'' area'' (refused_with (Room (turn.held.state.rounds + 1)))
+  pub ended-full : IsErr end → states'' ≡ replicate (length states') 0 → area'' ≡ replicate (length area') 0 →
+      PhasesOver weights states area held states'' area'' (Err (Room (last.state.rounds + 1)))
   ended-full crowd zeros zeros' = record {
     states_size = ap length zeros ∙ length-replicate (length states') 0 ∙ over.states_size;
     area_size = ap length zeros' ∙ length-replicate (length area') 0 ∙ over.area_size;
-    settles = λ m ws run end c p. absurd (false≢true (ap had_no_room (phase_same p (over.crowds m ws run c crowd))));
+    settles = λ m ws run end c p. absurd (false≢true (ap had_no_room (phase_same p (over.crowds crowd m ws run c))));
     crowds = λ m ws run round c p. (
-      ap (λ n. refused_with (Room n)) (ap round_in (phase_same (over.crowds m ws run c crowd) p)),
+      ap (λ n. Err (Room n)) (ap round_in (phase_same (over.crowds crowd m ws run c) p)),
       record {
         states_are = zeros ∙ ap (λ n. replicate n 0) over.states_size;
         area_is = zeros' ∙ ap (λ n. replicate n 0) over.area_size;
@@ -70,29 +69,31 @@ module _ {weights : List ℕ} {states states' states'' : Bytes} {area area' area
   }
 
   -- Phase I settled: Phase II purges at epsilon 0.
-  pub ended-kept : {kept : Held} → turn.full ≡ false → Purged states' area' (in_phase_two turn.held) states'' area'' kept →
-      PhasesOver weights states area held states'' area'' (record { answer = Done 0; held = kept })
+  pub ended-kept : {kept : Held} → IsOk end → Purged states' area' (in_phase_two last) states'' area'' kept →
+      PhasesOver weights states area held states'' area'' (Ok kept)
   ended-kept {kept} still p = record {
     states_size = p.states_size ∙ over.states_size;
     area_size = p.area_size ∙ over.area_size;
-    settles = λ m ws run end c one. let s = over.settles m ws run c still in
+    settles = λ m ws run end c one. let s = over.settles still m ws run c in
         let same : s.end ≡ end = ap (run_in end) (phase_same s.phase_one_is one) in
-        let holds = second_holds s.carries.holds in
-        record {
-          answered = refl;
-          holds = rw same at (p.holds m ws s.end holds);
-          tells = rw same at (p.tells m ws s.end holds);
-          few = omega (arith, p.made_stays, over.safe.few);
-          second = p.phase_stays;
-        };
-    crowds = λ m ws run round c one. let s = over.settles m ws run c still in
+        let holds = second_holds s.carries.holds in (
+          kept,
+          refl,
+          record {
+            holds = rw same at (p.holds m ws s.end holds);
+            tells = rw same at (p.tells m ws s.end holds);
+            few = omega (arith, p.made_stays, over.safe.few);
+            second = p.phase_stays;
+          },
+        );
+    crowds = λ m ws run round c one. let s = over.settles still m ws run c in
         absurd (false≢true (ap had_no_room (phase_same s.phase_one_is one)));
   }
 
 -- What is kept are at most 128 types, as at most 128 were ever made.
-module _ {m : ℕ} {ws : List ℕ} {end : Run} {states : Bytes} {area : List ℕ} {r : Ended} (kept : NetworkHeld m ws end states area r) where
+module _ {m : ℕ} {ws : List ℕ} {end : Run} {states : Bytes} {area : List ℕ} {held : Held} (kept : NetworkHeld m ws end states area held) where
   pub kept-few : length (purge ws 0 end).current ≤ 128
   kept-few = omega (arith, kept.few, kept.holds.made_are, made-count (purge ws 0 end))
 
-  pub types-few : r.held.state.types ≤ 128
+  pub types-few : held.state.types ≤ 128
   types-few = rw kept.holds.types_are kept-few

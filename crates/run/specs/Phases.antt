@@ -1,22 +1,21 @@
 -- What the phases of a run must do, for memory that holds a run.
-use Rattle.std.specs.Prelude.{◌≡◌, true, false, List, [], ℕ, ◌+◌, ◌≤◌, ◌<◌, length}
+use Rattle.std.specs.Prelude.{◌≡◌, List, ℕ, ◌+◌, ◌≤◌, length, Result, Ok, Err, IsOk, IsErr}
 use Rattle.rules.specs.Sizes.{most_types, state_area, distance_area}
 use Rattle.rules.specs.Job.{Bytes}
 use Rattle.rules.specs.Types.{rows_of}
 use Rattle.rules.specs.Purge.{Run, purge}
-use Rattle.rules.specs.Round.{offers}
 use Rattle.rules.specs.Run.{settled, full, PhaseOne}
-use Rattle.rules.specs.declared.Answer.TheVariants.{Done, Room}
+use Rattle.rules.specs.declared.Refusal.{Refusal}
+use Rattle.rules.specs.declared.Refusal.TheVariants.{Room}
 use Rattle.distances.specs.Area.{Weighed}
 use Rattle.links.specs.Marks.{TellsLinks}
 use Rattle.purge.specs.State.{epsilon_of}
 use Rattle.purge.specs.Holds.{Holds}
 use Rattle.purge.specs.declared.state.Held.{Held}
 use Rattle.purge.specs.declared.state.Phase.TheVariants.{Two}
-use Rattle.round.specs.Rounded.{Carries, Grows, Crowded}
-use Rattle.round.specs.declared.Turn.{Turn}
-use Rattle.run.specs.Begun.{refused_with, Cleared}
-use Rattle.run.specs.declared.start.Ended.{Ended}
+use Rattle.round.specs.Rounded.{Carries}
+use Rattle.round.specs.declared.candidates.NoRoom.{NoRoom}
+use Rattle.run.specs.Begun.{Cleared}
 
 -- Nothing that the code does can go out of bounds.
 pub record Safe (weights : List ℕ) (states : Bytes) (area : List ℕ) (held : Held) : Type 0 where
@@ -29,48 +28,32 @@ pub record Safe (weights : List ℕ) (states : Bytes) (area : List ℕ) (held : 
   pub states_fit : state_area ≤ length states
   pub cells_fit : distance_area ≤ length area
 
--- Links, purge and a round: the purged run has no candidate, or no room, or memory carries the next run.
-pub record Turned (weights : List ℕ) (states : Bytes) (area : List ℕ) (held : Held) (states' : Bytes) (area' : List ℕ) (turn : Turn) : Type 0 where
-  pub states_size : length states' ≡ length states
-  pub area_size : length area' ≡ length area
-  pub safe : Safe weights states' area' turn.held
-  pub phase_stays : turn.held.state.phase ≡ held.state.phase
-  pub made_are : turn.held.state.made ≡ held.state.made + turn.added
-  pub none_if_full : turn.full ≡ true → turn.added ≡ 0
-  pub settles : (m : ℕ) (ws : List ℕ) (run : Run) → Carries weights m ws run states area held → let purged = purge ws (epsilon_of held.state.phase) run in
-      turn.added ≡ 0 → turn.full ≡ false → (offers ws (epsilon_of held.state.phase) purged ≡ []) × Carries weights m ws purged states' area' turn.held
-  pub crowds : (m : ℕ) (ws : List ℕ) (run : Run) → Carries weights m ws run states area held → let purged = purge ws (epsilon_of held.state.phase) run in
-      turn.full ≡ true → Crowded ws (epsilon_of held.state.phase) purged × (turn.held.state.rounds ≡ purged.rounds)
-  pub grows : (m : ℕ) (ws : List ℕ) (run : Run) → Carries weights m ws run states area held → let purged = purge ws (epsilon_of held.state.phase) run in
-      0 < turn.added → Grows m ws (epsilon_of held.state.phase) purged states' area' turn.held
-
 -- Phase I settles in a run that memory carries, or a round has no room.
 pub record PhaseOneSettled (weights : List ℕ) (m : ℕ) (ws : List ℕ) (e : ℕ) (run : Run) (states : Bytes) (area : List ℕ) (held : Held) : Type 0 where
   pub end : Run
   pub phase_one_is : PhaseOne ws e run (settled end)
   pub carries : Carries weights m ws end states area held
 
-pub record PhaseOneOver (weights : List ℕ) (states : Bytes) (area : List ℕ) (held : Held) (states' : Bytes) (area' : List ℕ) (turn : Turn) : Type 0 where
+pub record PhaseOneOver (weights : List ℕ) (states : Bytes) (area : List ℕ) (held : Held) (states' : Bytes) (area' : List ℕ) (held' : Held) (r : Result (Unit {0}) NoRoom) : Type 0 where
   pub states_size : length states' ≡ length states
   pub area_size : length area' ≡ length area
-  pub safe : Safe weights states' area' turn.held
-  pub settles : (m : ℕ) (ws : List ℕ) (run : Run) → Carries weights m ws run states area held → turn.full ≡ false →
-      PhaseOneSettled weights m ws (epsilon_of held.state.phase) run states' area' turn.held
-  pub crowds : (m : ℕ) (ws : List ℕ) (run : Run) → Carries weights m ws run states area held → turn.full ≡ true →
-      PhaseOne ws (epsilon_of held.state.phase) run (full (turn.held.state.rounds + 1))
+  pub safe : Safe weights states' area' held'
+  pub settles : IsOk r → (m : ℕ) (ws : List ℕ) (run : Run) → Carries weights m ws run states area held →
+      PhaseOneSettled weights m ws (epsilon_of held.state.phase) run states' area' held'
+  pub crowds : IsErr r → (m : ℕ) (ws : List ℕ) (run : Run) → Carries weights m ws run states area held →
+      PhaseOne ws (epsilon_of held.state.phase) run (full (held'.state.rounds + 1))
 
 -- Both phases: memory holds the network's run, purged at epsilon 0, and tells its links; or no room, and memory is zero.
-pub record NetworkHeld (m : ℕ) (ws : List ℕ) (end : Run) (states : Bytes) (area : List ℕ) (r : Ended) : Type 0 where
-  pub answered : r.answer ≡ Done 0
-  pub holds : Holds m ws (purge ws 0 end) states area r.held
+pub record NetworkHeld (m : ℕ) (ws : List ℕ) (end : Run) (states : Bytes) (area : List ℕ) (held : Held) : Type 0 where
+  pub holds : Holds m ws (purge ws 0 end) states area held
   pub tells : TellsLinks ws 0 (rows_of (purge ws 0 end).current) area
-  pub few : r.held.state.made ≤ most_types
-  pub second : r.held.state.phase ≡ Two
+  pub few : held.state.made ≤ most_types
+  pub second : held.state.phase ≡ Two
 
-pub record PhasesOver (weights : List ℕ) (states : Bytes) (area : List ℕ) (held : Held) (states' : Bytes) (area' : List ℕ) (r : Ended) : Type 0 where
+pub record PhasesOver (weights : List ℕ) (states : Bytes) (area : List ℕ) (held : Held) (states' : Bytes) (area' : List ℕ) (r : Result Held Refusal) : Type 0 where
   pub states_size : length states' ≡ length states
   pub area_size : length area' ≡ length area
   pub settles : (m : ℕ) (ws : List ℕ) (run end : Run) → Carries weights m ws run states area held →
-      PhaseOne ws (epsilon_of held.state.phase) run (settled end) → NetworkHeld m ws end states' area' r
+      PhaseOne ws (epsilon_of held.state.phase) run (settled end) → (kept : Held) × (r ≡ Ok kept) × NetworkHeld m ws end states' area' kept
   pub crowds : (m : ℕ) (ws : List ℕ) (run : Run) (round : ℕ) → Carries weights m ws run states area held →
-      PhaseOne ws (epsilon_of held.state.phase) run (full round) → (r ≡ refused_with (Room round)) × Cleared states' area' (length states) (length area)
+      PhaseOne ws (epsilon_of held.state.phase) run (full round) → (r ≡ Err (Room round)) × Cleared states' area' (length states) (length area)

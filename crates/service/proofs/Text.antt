@@ -1,4 +1,5 @@
 -- The text of what the call leaves is the text of the rules, and the block that it leaves can always be printed.
+use Rattle.std.specs.Prelude.{Ok, Err}
 use mathlib.Core.Path.{◌≡◌, refl, sym, ap, ap₂, ◌∙◌}
 use mathlib.Core.Logic.{◌≢◌}
 use mathlib.Core.Bool.{Bool, true, false, cond, not, ◌&&◌}
@@ -8,19 +9,17 @@ use native.Mathlib.Omega.{arith}
 use lib.Dec.{ltb, eqb}
 use lib.ListN.{length, length-append}
 use borrow.Author.Tests.{le-ltb, eq-eqb, ne_eqb, le-leb}
-use Rattle.rules.specs.Answers.{number}
+use Rattle.rules.specs.Answers.{number, Answer}
 use Rattle.rules.specs.Job.{Bytes, word, checked}
 use Rattle.rules.specs.Lent.{Lent, least}
 use Rattle.rules.specs.Run.{Network}
 use Rattle.rules.specs.Call.{Verdict, refused, found, verdict, answer, padded, result_after}
 use Rattle.rules.specs.Text.{printed}
-use Rattle.rules.specs.declared.Answer.{Answer}
 use Rattle.readback.proofs.Found.{answered, found-is, verdict_numbered}
 use Rattle.readback.proofs.Result.{few-links, read_result, header-matches, links-counted, links-reach}
 use Rattle.text.specs.Lines.{legible}
-use Rattle.text.specs.Printed.{printed_used, text_room, text_of, brief_room, printed_as, printed_bytes, TextLeft, brief_as, BriefLeft}
-use Rattle.text.specs.declared.Printed.{Printed}
-use Rattle.text.specs.declared.Printed.TheVariants.{Done, Short}
+use Rattle.text.specs.Printed.{printed_used, text_room, text_of, brief_room, printed_as, printed_bytes, TextLeft, brief_as, BriefLeft, Printed}
+use Rattle.text.specs.declared.Unprinted.TheVariants.{Short}
 use Rattle.text.proofs.Room.{every_suffices}
 use Rattle.service.specs.Served.{AnsweredJob, printed_in, shown, Shown, TextOnly}
 
@@ -70,24 +69,24 @@ module _ (lent : Lent) (job : Bytes) where
   abbrev Brief : ℕ → Bytes → Printed → Type 0
   Brief n out r = BriefLeft job (result_after lent job) (answer lent job) n out r
 
-  brief_is : (n : ℕ) → brief_as n job (result_after lent job) (answer lent job) ≡ cond (ltb n room) Short (Done (length (printed lent job)))
+  brief_is : (n : ℕ) → brief_as n job (result_after lent job) (answer lent job) ≡ cond (ltb n room) (Err Short) (Ok (length (printed lent job)))
   unfolding brief_as
   brief_is n = rw (never_block, text-is)
 
   -- Where there is no lack of room, all of the text is printed.
-  pub brief_whole : {n : ℕ} {out : Bytes} {r : Printed} → Brief n out r → r ≢ Short →
-      (r ≡ Done (length (printed lent job))) × (out ≡ padded n (printed lent job))
+  pub brief_whole : {n : ℕ} {out : Bytes} {r : Printed} → Brief n out r → r ≢ (Err Short) →
+      (r ≡ (Ok (length (printed lent job)))) × (out ≡ padded n (printed lent job))
   brief_whole {n} {out} {r} b f = go (ltb n room) refl
     where
-      go : (t : Bool) → ltb n room ≡ t → (r ≡ Done (length (printed lent job))) × (out ≡ padded n (printed lent job))
+      go : (t : Bool) → ltb n room ≡ t → (r ≡ (Ok (length (printed lent job)))) × (out ≡ padded n (printed lent job))
       go true e = absurd (f (b.answered ∙ brief_is n ∙ rw e))
       go false e = (b.answered ∙ brief_is n ∙ rw e, b.left ∙ rw (brief_is n, e, text-is))
 
   -- There is none where there is room for every text.
-  pub brief_roomy : {n : ℕ} {out : Bytes} {r : Printed} → Brief n out r → text_room ≤ n → r ≢ Short
+  pub brief_roomy : {n : ℕ} {out : Bytes} {r : Printed} → Brief n out r → text_room ≤ n → r ≢ (Err Short)
   brief_roomy {n} {r = r} b h e =
       let l : number (answer lent job) ≡ 0 → legible job (result_after lent job) ≡ true = (λ z. let (net, is) = (answered lent job).0 z in legible-block net is) in
-      let done : r ≡ Done (length (printed lent job)) =
+      let done : r ≡ (Ok (length (printed lent job))) =
       b.answered ∙ brief_is n ∙ rw (le-ltb n room (omega (arith, every_suffices job (result_after lent job) (answer lent job) l))) in
       let z : ◌≡◌ {A = ℕ} 0 1 = cc in omega arith
 
@@ -105,14 +104,14 @@ module _ (lent : Lent) (job : Bytes) {r : Answer} {result : Bytes} (said : r ≡
 shown-used : (lent : ℕ) (xs : Bytes) → printed_used (printed_in lent xs) ≡ length (shown lent xs)
 shown-used lent xs = go (ltb lent text_room)
   where
-    go : (t : Bool) → printed_used (cond t Short (Done (length xs))) ≡ length (cond t [] xs)
+    go : (t : Bool) → printed_used (cond t (Err Short) (Ok (length xs))) ≡ length (cond t [] xs)
     go true = refl
     go false = refl
 
 shown-bytes : (lent : ℕ) (xs : Bytes) → printed_bytes (printed_in lent xs) xs ≡ shown lent xs
 shown-bytes lent xs = go (ltb lent text_room)
   where
-    go : (t : Bool) → printed_bytes (cond t Short (Done (length xs))) xs ≡ cond t [] xs
+    go : (t : Bool) → printed_bytes (cond t (Err Short) (Ok (length xs))) xs ≡ cond t [] xs
     go true = refl
     go false = refl
 

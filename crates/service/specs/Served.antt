@@ -1,14 +1,13 @@
 -- A job is answered, and its answer printed: what the call promises, and the text of RULES 15.
-use Rattle.std.specs.Prelude.{◌≡◌, cond, [], ℕ, ◌≤◌, ltb, length}
+use Rattle.std.specs.Prelude.{◌≡◌, cond, [], ℕ, ◌≤◌, ltb, length, Ok, Err}
 use Rattle.rules.specs.Sizes.{most_links, state_area, distance_area}
 use Rattle.rules.specs.Job.{Bytes}
 use Rattle.rules.specs.Lent.{Lent, least}
 use Rattle.rules.specs.Call.{answer, padded, result_after}
 use Rattle.rules.specs.Text.{printed}
-use Rattle.rules.specs.declared.Answer.{Answer}
-use Rattle.text.specs.Printed.{text_room}
-use Rattle.text.specs.declared.Printed.{Printed}
-use Rattle.text.specs.declared.Printed.TheVariants.{Done, Short}
+use Rattle.rules.specs.Answers.{Answer}
+use Rattle.text.specs.Printed.{text_room, Printed}
+use Rattle.text.specs.declared.Unprinted.TheVariants.{Short}
 
 -- A result of so many bytes, and of all else the least that may be lent.
 abbrev pub least_beside : ℕ → Lent
@@ -21,7 +20,7 @@ pub record AnsweredJob (job result : Bytes) (r : Answer) (result' : Bytes) : Typ
 
 -- A text in memory of some length: there is room for every text, or nothing is written.
 abbrev pub printed_in : ℕ → Bytes → Printed
-printed_in lent xs = cond (ltb lent text_room) Short (Done (length xs))
+printed_in lent xs = cond (ltb lent text_room) (Err Short) (Ok (length xs))
 
 -- A text alone, and its length: nothing where there is no room for every text.
 abbrev pub shown : ℕ → Bytes → Bytes

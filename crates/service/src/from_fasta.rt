@@ -8,7 +8,7 @@ use answers::Told;
 use fasta::conversion::tell_conversion;
 use fasta::make_job;
 use rules::LARGEST_JOB;
-use text::{refusal_text, tell_text};
+use text::refusal_text;
 
 // The text of the network of a FASTA text, or of its refusal. What is handed back is its length.
 pub fn answer_fasta(text: &[u8], epsilon: u16, out: &mut [u8]) -> usize
@@ -16,12 +16,9 @@ pub fn answer_fasta(text: &[u8], epsilon: u16, out: &mut [u8]) -> usize
 {
     let mut job = [0u8; LARGEST_JOB];
     let conversion = make_job(text, epsilon, &mut job);
-    let told: Told = tell_conversion(conversion);
-    if told.number == 0 {
-        let used = told.used;
+    if let Ok(used) = conversion {
         return answer_text(&job[..used], out);
     }
-    let printed = refusal_text(told.number, told.place, out);
-    let ended = tell_text(printed);
-    ended.used
+    let told: Told = tell_conversion(conversion);
+    refusal_text(told.number, told.place, out).unwrap_or(0)
 }

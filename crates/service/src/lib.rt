@@ -8,12 +8,11 @@ pub mod from_fasta;
 ghost use Rattle.network.specs.Called.{Called};
 ghost use Rattle.service.specs.Served.{AnsweredJob, TextOnly};
 
-use answers::Told;
 use network::call;
 use rules::{Answer, DISTANCE_AREA, Link, MOST_LINKS, RESULT_AREA, STATE_AREA};
-use text::{tell_text, text};
+use text::text;
 
-// What a call with a table by value leaves: the answer, and the table.
+// What a call with a table by value leaves: the answer, and the table. It is no Result, since the table comes back after a refusal too.
 #[derive(Clone, Copy)]
 pub struct Owned {
     pub answer: Answer,
@@ -52,13 +51,12 @@ pub fn answer_job(job: &[u8], res: &mut [u8]) -> Answer
     owned.answer
 }
 
-// A job served over memory of this function's own, of the least lengths too. What is handed back is the text's length.
+// A job served over memory of this function's own, of the least lengths too. What is handed back is the text's length, or 0 where there is
+// no text: that is what the promise says.
 pub fn answer_text(job: &[u8], out: &mut [u8]) -> usize
     ensures { TextOnly job.now out.old result out.new }
 {
     let mut result = [0u8; RESULT_AREA];
     let answer = answer_job(job, &mut result);
-    let printed = text(job, &result, answer, out);
-    let told: Told = tell_text(printed);
-    told.used
+    text(job, &result, answer, out).unwrap_or(0)
 }

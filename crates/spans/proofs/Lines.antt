@@ -10,7 +10,7 @@ use lib.Seq.{get_or-set_same, get_or-set_other}
 use borrow.Author.Count.{below_more}
 use Rattle.distances.specs.Area.{cell_at, CellsWritten, Line}
 use Rattle.distances.proofs.Area.{cell-kept}
-use Rattle.spans.specs.Growth.{Filled, longest, Lined, Completed}
+use Rattle.spans.specs.Growth.{Filled, longest, Lined}
 use Rattle.spans.proofs.Stretch.{longest-none, longest-by, longest-more, longest-within}
 use Rattle.spans.proofs.Growing.{Out, stretch-kept, stretch-more}
 
@@ -74,21 +74,16 @@ pub record Settling (n k : ℕ) (o w : ℕ → ℕ) (reach spans : List ℕ) : T
   pub settled : (i j : ℕ) → k ≤ i + 1 → i < j → j < n → cell_at spans (o i) (o j) ≡ longest w i j
   pub later : (i j : ℕ) → i + 1 < k → i < j → j < n → 65535 ≤ cell_at spans (o i) (o j)
 
--- No line is settled but the last, which has no type behind it; and all are.
-module _ {n : ℕ} {order steps spans : List ℕ} where
-  pub settling_none : n ≤ 128 → Lined n order steps spans →
-      Settling n n (λ k. get_or order k 0) (λ k. get_or steps k 0) (replicate 128 65535) spans
-  settling_none few l = record {
-    reached = λ i h b. absurd (omega arith);
-    beyond = λ i h b. omega (arith, get_or-replicate {A = ℕ} 128 (get_or order i 0) 65535 0 (omega (arith, l.types i b)));
-    earlier = l.earlier;
-    settled = λ i j g h b. absurd (omega arith);
-    later = λ i j g. l.later i j;
-  }
-
-  pub settling_all : {k : ℕ} {before reach : List ℕ} → k ≤ 1 → length spans ≡ length before →
-      Settling n k (λ i. get_or order i 0) (λ i. get_or steps i 0) reach spans → Completed n order steps before spans
-  settling_all h e s = record { size = e; earlier = s.earlier; later = λ i j. s.settled i j (omega arith) }
+-- No line is settled but the last, which has no type behind it.
+pub settling_none : {n : ℕ} {order steps spans : List ℕ} → n ≤ 128 → Lined n order steps spans →
+    Settling n n (λ k. get_or order k 0) (λ k. get_or steps k 0) (replicate 128 65535) spans
+settling_none {order = order} few l = record {
+  reached = λ i h b. absurd (omega arith);
+  beyond = λ i h b. omega (arith, get_or-replicate {A = ℕ} 128 (get_or order i 0) 65535 0 (omega (arith, l.types i b)));
+  earlier = l.earlier;
+  settled = λ i j g h b. absurd (omega arith);
+  later = λ i j g. l.later i j;
+}
 
 -- What `reach` comes to by a step from type v.
 abbrev stepped : List ℕ → ℕ → ℕ → ℕ → ℕ

@@ -30,9 +30,7 @@ pub record Next (n size v step : ℕ) (near inside order : List ℕ) : Type 0 wh
   pub taken : 0 < size → step ≡ at near v
   pub nearest : (u : ℕ) → u < n → Out (at order) size u → step ≤ at near u
 
-pub record Growing (n size v step : ℕ) (area before spans order steps near inside reach : List ℕ) : Type 0 where
-  pub to : size ≤ n
-  pub spans-size : length spans ≡ length before
+pub record Growing (n size v step : ℕ) (area spans order steps near inside reach : List ℕ) : Type 0 where
   pub order_size : length order ≡ 128
   pub steps_size : length steps ≡ 128
   pub near_size : length near ≡ 128
@@ -47,13 +45,11 @@ pub record Growing (n size v step : ℕ) (area before spans order steps near ins
 pub growing_none : {n : ℕ} (area before : List ℕ) {order steps inside : List ℕ} → n ≤ 128 →
     length order ≡ 128 → length steps ≡ 128 → length inside ≡ 128 → ((u : ℕ) → u < n → at inside u ≡ 0) →
     ((u : ℕ) → n ≤ u → u < 128 → at inside u ≡ 65535) →
-    Growing n 0 0 0 area before before order steps (replicate 128 65535) inside (replicate 128 65535)
+    Growing n 0 0 0 area before order steps (replicate 128 65535) inside (replicate 128 65535)
 growing_none {n} area before {inside = inside} few ho hs hi free past =
     let full : (u : ℕ) → u < n → 65535 ≤ at (replicate 128 65535) u =
     λ u h. omega (arith, get_or-replicate {A = ℕ} 128 u 65535 0 (omega arith)) in
     record {
-      to = omega arith;
-      spans-size = refl;
       order_size = ho;
       steps_size = hs;
       near_size = refl;
@@ -89,13 +85,12 @@ growing_none {n} area before {inside = inside} few ho hs hi free past =
 
 -- All types are in the tree.
 pub growing_all : {n size v step : ℕ} {area before spans order steps near inside reach : List ℕ} →
-    Growing n size v step area before spans order steps near inside reach → n ≤ size → TreeGrown n area before spans order steps
-growing_all {n} {size} {order = order} g l =
-    let e : size ≡ n = omega (arith, g.to) in
+    Growing n size v step area spans order steps near inside reach → size ≡ n → length spans ≡ length before → TreeGrown n area before spans order steps
+growing_all {n} {size} {order = order} g e long =
     let listed = rw e at g.listed in
     let lines = rw e at g.lines in
     record {
-      size = g.spans-size;
+      size = long;
       order_size = g.order_size;
       steps_size = g.steps_size;
       lined = record {
@@ -109,9 +104,9 @@ growing_all {n} {size} {order = order} g l =
     }
 
 -- Type v joins: its line is written, types outside are approached by it, and the next one is found.
-module _ {n wide size v step step' v' : ℕ} {area before spans spans' order steps near near' inside reach reach' : List ℕ}
+module _ {n wide size v step step' v' : ℕ} {area spans spans' order steps near near' inside reach reach' : List ℕ}
     (few : n ≤ wide) (room : wide ≤ 128) (full : Full n area) (small : (p : ℕ) → at area p ≤ 65535) (more : size < n)
-    (g : Growing n size v step area before spans order steps near inside reach)
+    (g : Growing n size v step area spans order steps near inside reach)
     (f : Filled wide (λ u. max (at reach u) step) reach reach')
     (x : CellsWritten (Line v wide) (λ i u. max (at reach u) step) spans spans')
     (a : Filled wide (nearer v area near) near near')
@@ -188,10 +183,8 @@ module _ {n wide size v step step' v' : ℕ} {area before spans spans' order ste
       }
 
   pub growing-more :
-      Growing n (size + 1) v' step' area before spans' (set order size v) (set steps size step) near' inside' (set reach' v 0)
+      Growing n (size + 1) v' step' area spans' (set order size v) (set steps size step) near' inside' (set reach' v 0)
   growing-more = record {
-    to = omega arith;
-    spans-size = x.size ∙ g.spans-size;
     order_size = length-set order size v ∙ g.order_size;
     steps_size = length-set steps size step ∙ g.steps_size;
     near_size = a.size ∙ g.near_size;
@@ -204,11 +197,8 @@ module _ {n wide size v step step' v' : ℕ} {area before spans spans' order ste
     next = next';
   }
 
--- Where the mirror cells hold the distances, lines are full, and distances are as they were.
+-- Where the mirror cells hold the distances, distances are as they were.
 module _ {n : ℕ} {before area : List ℕ} (few : n ≤ 128) (w : CellsWritten (Mirror n) (opposite before) before area) where
-  pub full-mirrored : Full n area
-  full-mirrored i j l h = w.holds i j (l, h) ∙ sym (cell-kept w (λ a b t. omega arith) j i (omega arith) (λ t. omega arith))
-
   between-kept : (i j : ℕ) → i < n → j < n → between area i j ≡ between before i j
   between-kept i j hi hj = cell-kept w (λ a b t. omega arith) (min i j) (max i j) (omega arith) (λ t. omega arith)
 

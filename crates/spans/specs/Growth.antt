@@ -40,6 +40,10 @@ pub record NearestFound (k : ℕ) (near inside : List ℕ) (x r : ℕ) : Type 0 
   pub to : r ≤ k
   pub fits : (u : ℕ) → u < k → IsOutside (get_or near u 0) (get_or inside u 0) x → (r < k) × IsOutside (get_or near r 0) (get_or inside r 0) x
 
+-- Every answer to what stood in a cell and how far is reached now is the number made of them.
+abbrev pub Makes : (ℕ → ℕ → ℕ → Type 0) → (ℕ → ℕ → ℕ) → Type 0
+Makes answers made = (old far new : ℕ) → answers old far new → new ≡ made old far
+
 -- The longest of the steps behind a, up to b.
 unfoldable pub longest : (ℕ → ℕ) → ℕ → ℕ → ℕ
 longest w a zero = 0

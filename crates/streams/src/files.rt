@@ -1,6 +1,6 @@
 // Files by a name, whose bytes must be text, and a line on standard error where one cannot be opened.
 
-ghost use Rattle.std.specs.Prelude.{IsSome, IsTrue, ◌≡◌, ◌∷◌, [], ◌++◌, ℕ, List, codes};
+ghost use Rattle.std.specs.Prelude.{IsSome, OnOk, ◌≡◌, ◌∷◌, [], ◌++◌, ℕ, List, codes};
 ghost use Rattle.std.specs.Io.KnownBytes.{Appends, Keeps};
 
 use crate::printing::write_all;
@@ -26,7 +26,7 @@ pub fn open<F: Files, W: Write>(files: &F, name: &[u8], errors: &mut W) -> Optio
     match open_named(files, name) {
         Ok(file) => Some(file),
         Err(error) => {
-            tell_failure(errors, name, error);
+            let _ = tell_failure(errors, name, error);
             None
         }
     }
@@ -40,25 +40,19 @@ fn words_alone(text: &[u8]) -> &[u8] {
     }
 }
 
-// Writes a line: what failed, as the caller names it, a colon and words. True says that all of it is written.
-fn tell<W: Write>(output: &mut W, what: &[u8], words: &[u8]) -> bool
-    ensures { IsTrue result → Appends (W.contents output.old) (W.contents output.new) (what.now ++ (codes ": " ++ (words.now ++ 10 ∷ []))) }
+// Writes a line: what failed, as the caller names it, a colon and words.
+fn tell<W: Write>(output: &mut W, what: &[u8], words: &[u8]) -> io::Result<()>
+    ensures { OnOk result (Appends (W.contents output.old) (W.contents output.new) (what.now ++ (codes ": " ++ (words.now ++ 10 ∷ [])))) }
 {
-    if !write_all(output, what) {
-        return false;
-    }
-    if !write_all(output, b": ") {
-        return false;
-    }
-    if !write_all(output, words) {
-        return false;
-    }
+    write_all(output, what)?;
+    write_all(output, b": ")?;
+    write_all(output, words)?;
     write_all(output, b"\n")
 }
 
 // Writes such a line with the system's words for an error.
-pub fn tell_failure<W: Write>(output: &mut W, what: &[u8], error: io::Error) -> bool
-    ensures { IsTrue result → (words : List ℕ) × Appends (W.contents output.old) (W.contents output.new) (what.now ++ (codes ": " ++ (words ++ 10 ∷ []))) }
+pub fn tell_failure<W: Write>(output: &mut W, what: &[u8], error: io::Error) -> io::Result<()>
+    ensures { OnOk result ((words : List ℕ) × Appends (W.contents output.old) (W.contents output.new) (what.now ++ (codes ": " ++ (words ++ 10 ∷ [])))) }
 {
     let mut text = [0u8; 320];
     let mut cursor = Cursor::new(&mut text[..]);

@@ -114,9 +114,6 @@ module _ {states : Bytes} {area ws next mismatches₀ : List ℕ} {gathered₀ g
     low = omega (arith, a.no_higher, ready.low);
   }
 
-  pub ready_as : {now : Met} {low : ℕ} → now ≡ met s₀ low → Sweepable states area ws next mismatches₀ gathered₀ guesses₀ size now.search
-  ready_as e = rw e ready
-
   -- Numbers of types are small.
   pub few : {c : ℕ} → c < size.types → c < 128
   few h = omega (arith, ready.current, ready.room)
@@ -166,9 +163,6 @@ module _ {states : Bytes} {area ws next mismatches₀ : List ℕ} {gathered₀ g
   one_more B a b which = swept-more a (swept_at B Given a.made_stays b) which
 
   -- The sweep of all types.
-  pub everywhere-none : Swept (Everywhere ws states area size.types s₀.made 0) (Given s₀.made) gathered₀ s₀ gathered₀ s₀
-  everywhere-none = none-asked (λ x cost k. omega (arith, k.within))
-
   pub everywhere-more : (c : ℕ) {gathered found' : Bytes} {s s' : Search} →
       Swept (Everywhere ws states area size.types s₀.made c) (Given s₀.made) gathered₀ s₀ gathered s →
       Swept (AtCentre ws states area size.types s.made c size.types) (Given s.made) gathered s found' s' →

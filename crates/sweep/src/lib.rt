@@ -22,20 +22,21 @@ pub struct Size {
     pub types: usize,
 }
 
+// What a round reads: the rows made, the distances and links of the current types, the weights, who is linked with whom, and the hints.
+#[derive(Clone, Copy)]
+pub struct Known<'a> {
+    pub states: &'a [u8],
+    pub area: &'a [u16],
+    pub weights: &'a [u16],
+    pub next: &'a [u16],
+    pub hints: &'a [u64],
+}
+
 // What is met: the search has come to this, and no candidate met costs less than the floor.
 #[derive(Clone, Copy)]
 struct Met {
     search: Search,
     floor: usize,
-}
-
-impl Met {
-    // The search, and a floor of what it met.
-    fn new(search: Search, floor: usize) -> Self
-        ensures { result ≡ met search floor }
-    {
-        Met { search, floor }
-    }
 }
 
 // A type c, and the search that comes to it.
@@ -71,21 +72,6 @@ impl Survey {
         self.search = search;
         self
     }
-
-    // The search has come to this, and floors were found anew.
-    fn with(mut self, search: Search, floors: [usize; MOST_TYPES]) -> Self
-        ensures { (result.size ≡ self.size) × (result.search ≡ search) × (result.floors ≡ floors) }
-    {
-        self.search = search;
-        self.floors = floors;
-        self
-    }
-}
-
-fn lesser(x: usize, y: usize) -> usize
-    ensures { result ≡ min x y }
-{
-    if x < y { x } else { y }
 }
 
 // No candidate of a triplet costs less than this, by its distances; and where these leave a cost that matters, it is asked whether all
@@ -118,111 +104,110 @@ fn outlook(
 // The triplets of type c and two types linked with it, of which a is the lower one. Where the two are linked with each other and a
 // is below c, the triplet is met at type a.
 fn with_first(
-    states: &[u8],
-    area: &[u16],
-    weights: &[u16],
-    next: &[u16],
+    known: &Known,
     mismatches: &mut [u64],
-    hints: &[u64],
     gathered: &mut [u8],
     guesses: &mut [u16],
     pair: Pair,
 ) -> Met
-    requires { Sweepable states.now area.now weights.now next.now mismatches.old gathered.old guesses.old pair.size pair.met.search
-        × (pair.c < pair.size.types) × (pair.a < pair.size.types) × (marked area.now pair.c pair.a ≡ true) }
-    ensures { Passed weights.now states.now area.now pair.size pair.met
-        (WithFirst weights.now states.now area.now pair.size.types pair.met.search.made pair.c pair.a pair.size.types)
+    requires { Sweepable known.now.states.now known.now.area.now known.now.weights.now known.now.next.now mismatches.old gathered.old guesses.old pair.size pair.met.search
+        × (pair.c < pair.size.types) × (pair.a < pair.size.types) × (marked known.now.area.now pair.c pair.a ≡ true) }
+    ensures { Passed known.now.weights.now known.now.states.now known.now.area.now pair.size pair.met
+        (WithFirst known.now.weights.now known.now.states.now known.now.area.now pair.size.types pair.met.search.made pair.c pair.a pair.size.types)
         mismatches.old gathered.old mismatches.new gathered.new guesses.new result }
 {
-    let m = pair.size.width;
-    let n = pair.size.types;
-    let c = pair.c;
-    let a = pair.a;
-    let mut now = pair.met.search;
-    let mut low = pair.met.floor;
+    let Known {
+        states,
+        area,
+        weights,
+        next,
+        hints,
+    } = *known;
+    let Pair {
+        size: Size { width: m, types: n },
+        met: Met {
+            search: mut now,
+            floor: mut low,
+        },
+        c,
+        a,
+    } = pair;
     let mut b = next[FOLLOWERS_LINE * c + a + 1] as usize;
+    // no count: the next type is the follower
     while b < n {
         if c < a || area[LINE * b + a] != 1 {
             let t = in_order(c, a, b);
             let least = outlook(states, area, mismatches, hints, m, now.made, t, now.below);
-            low = lesser(low, least);
+            low = low.min(least);
             if least < now.below {
                 now = visit(states, weights, gathered, guesses, now, t);
             }
         }
         b = next[FOLLOWERS_LINE * c + b + 1] as usize;
     }
-    Met::new(now, low)
+    Met {
+        search: now,
+        floor: low,
+    }
 }
 
 // The triplets of type c and two types linked with it.
 fn at_centre(
-    states: &[u8],
-    area: &[u16],
-    weights: &[u16],
-    next: &[u16],
+    known: &Known,
     mismatches: &mut [u64],
-    hints: &[u64],
     gathered: &mut [u8],
     guesses: &mut [u16],
     at: Centre,
 ) -> Met
-    requires { Sweepable states.now area.now weights.now next.now mismatches.old gathered.old guesses.old at.size at.search × (at.c < at.size.types) }
-    ensures { Passed weights.now states.now area.now at.size (met at.search no_cost)
-        (AtCentre weights.now states.now area.now at.size.types at.search.made at.c at.size.types)
+    requires { Sweepable known.now.states.now known.now.area.now known.now.weights.now known.now.next.now mismatches.old gathered.old guesses.old at.size at.search × (at.c < at.size.types) }
+    ensures { Passed known.now.weights.now known.now.states.now known.now.area.now at.size (met at.search no_cost)
+        (AtCentre known.now.weights.now known.now.states.now known.now.area.now at.size.types at.search.made at.c at.size.types)
         mismatches.old gathered.old mismatches.new gathered.new guesses.new result }
 {
-    let size = at.size;
+    let Centre { size, search, c } = at;
     let n = size.types;
-    let c = at.c;
-    let mut met = Met::new(at.search, NO_COST);
-    let mut a = next[FOLLOWERS_LINE * c] as usize;
+    let mut met = Met {
+        search,
+        floor: NO_COST,
+    };
+    let mut a = known.next[FOLLOWERS_LINE * c] as usize;
+    // no count: the next type is the follower
     while a < n {
         met = with_first(
-            states,
-            area,
-            weights,
-            next,
+            known,
             mismatches,
-            hints,
             gathered,
             guesses,
             Pair { size, met, c, a },
         );
-        a = next[FOLLOWERS_LINE * c + a + 1] as usize;
+        a = known.next[FOLLOWERS_LINE * c + a + 1] as usize;
     }
     met
 }
 
 // All triplets. A type is passed over where its floor says that nothing of a cost that matters is met there.
 pub fn sweep(
-    states: &[u8],
-    area: &[u16],
-    weights: &[u16],
-    next: &[u16],
+    known: &Known,
     mismatches: &mut [u64],
-    hints: &[u64],
     gathered: &mut [u8],
     guesses: &mut [u16],
     survey: Survey,
 ) -> Survey
-    requires { Sweepable states.now area.now weights.now next.now mismatches.old gathered.old guesses.old survey.size survey.search
-        × Floors weights.now states.now area.now survey.size.types survey.search.made survey.floors }
-    ensures { Surveyed weights.now states.now area.now survey mismatches.old gathered.old
+    requires { Sweepable known.now.states.now known.now.area.now known.now.weights.now known.now.next.now mismatches.old gathered.old guesses.old survey.size survey.search
+        × Floors known.now.weights.now known.now.states.now known.now.area.now survey.size.types survey.search.made survey.floors }
+    ensures { Surveyed known.now.weights.now known.now.states.now known.now.area.now survey mismatches.old gathered.old
         mismatches.new gathered.new guesses.new result }
 {
-    let size = survey.size;
-    let mut search = survey.search;
-    let mut floors = survey.floors;
+    let Survey {
+        size,
+        mut search,
+        mut floors,
+    } = survey;
     for c in 0..size.types {
         if floors[c] < search.below {
             let met = at_centre(
-                states,
-                area,
-                weights,
-                next,
+                known,
                 mismatches,
-                hints,
                 gathered,
                 guesses,
                 Centre { size, search, c },
@@ -231,5 +216,9 @@ pub fn sweep(
             floors[c] = met.floor;
         }
     }
-    survey.with(search, floors)
+    Survey {
+        size,
+        search,
+        floors,
+    }
 }

@@ -2,61 +2,76 @@
 
 ghost use Rattle.std.specs.Prelude.{◌≡◌, ◌+◌, ◌*◌, ◌≤◌, length};
 
-// Byte i of the header, for n rows of m and epsilon 0, or of the weights behind it, each 1.
-fn head(n: usize, m: usize, i: usize) -> u8
-    requires { 12 + 2 * m + n * m ≤ 16525 }
-{
-    let x = match i {
-        0 => n,
-        1 => n / 256,
-        2 => m,
-        4 => 0,
-        6 => 12,
-        8 => 12 + 2 * m,
-        10 => 12 + 2 * m + n * m,
-        11 => (12 + 2 * m + n * m) / 256,
-        _ => 1 - i % 2,
-    };
-    (x % 256) as u8
+// A job of so many rows and columns, whose least state is `first`. The first rows, `grid` of them, lie on a grid over two columns, with
+// `side` states in the second and the first state behind. The rows past the grid are all at its first place, with 110, 101 and 011 behind.
+#[derive(Clone, Copy)]
+pub(crate) struct Grid {
+    pub(crate) rows: usize,
+    pub(crate) width: usize,
+    pub(crate) grid: usize,
+    pub(crate) side: usize,
+    pub(crate) first: u8,
+    ghost some_width: { 1 ≤ width },
+    ghost some_side: { 1 ≤ side },
+    ghost fits: { 12 + 2 * width + rows * width ≤ 16525 },
 }
 
-// The state of row k in column c. The grid lies over two columns, b states in the second, with the first state behind. The rows past
-// the grid are all at its first place, with 110, 101 and 011 behind.
-fn state(k: usize, c: usize, grid: usize, b: usize, first: u8) -> u8
-    requires { 1 ≤ b }
-{
-    let x = if k < grid {
-        match c {
-            0 => k / b,
-            1 => k % b,
-            _ => 0,
+impl Grid {
+    pub(crate) fn size(self) -> usize
+        ensures { result ≡ 12 + 2 * self.width + self.rows * self.width }
+    {
+        12 + 2 * self.width + self.rows * self.width
+    }
+
+    // Byte i of the header, at epsilon 0, or of the weights behind it, each 1.
+    fn head(self, i: usize) -> u8 {
+        let x = match i {
+            0 => self.rows,
+            1 => self.rows / 256,
+            2 => self.width,
+            4 => 0,
+            6 => 12,
+            8 => 12 + 2 * self.width,
+            10 => self.size(),
+            11 => self.size() / 256,
+            _ => 1 - i % 2,
+        };
+        (x % 256) as u8
+    }
+
+    // The state of row k in column c.
+    fn state(self, k: usize, c: usize) -> u8 {
+        let x = if k < self.grid {
+            match c {
+                0 => k / self.side,
+                1 => k % self.side,
+                _ => 0,
+            }
+        } else if (c < 2) | (c % 8 + (k - self.grid) % 8 == 4) {
+            0
+        } else {
+            1
+        };
+        self.first % 128 + (x % 64) as u8
+    }
+
+    fn byte(self, i: usize) -> u8 {
+        let states = 12 + 2 * self.width;
+        if i < states {
+            return self.head(i);
         }
-    } else if (c < 2) | (c % 8 + (k - grid) % 8 == 4) {
-        0
-    } else {
-        1
-    };
-    first % 128 + (x % 64) as u8
-}
-
-fn byte(n: usize, m: usize, grid: usize, b: usize, first: u8, i: usize) -> u8
-    requires { (1 ≤ m) × (1 ≤ b) × (12 + 2 * m + n * m ≤ 16525) }
-{
-    if i < 12 + 2 * m {
-        return head(n, m, i);
+        let at = i - states;
+        self.state(at / self.width, at % self.width)
     }
-    let at = i - 12 - 2 * m;
-    state(at / m, at % m, grid, b, first)
-}
 
-// What lies behind the last row is of no job.
-pub(crate) fn built(n: usize, m: usize, grid: usize, b: usize, first: u8) -> [u8; 16525]
-    requires { (1 ≤ m) × (1 ≤ b) × (12 + 2 * m + n * m ≤ 16525) }
-    ensures { length result ≡ 16525 }
-{
-    let mut job = [0u8; 16525];
-    for i in 0..16525 {
-        job[i] = byte(n, m, grid, b, first, i);
+    // What lies behind the last row is of no job.
+    pub(crate) fn built(self) -> [u8; 16525]
+        ensures { length result ≡ 16525 }
+    {
+        let mut job = [0u8; 16525];
+        for (i, byte) in job.iter_mut().enumerate() {
+            *byte = self.byte(i);
+        }
+        job
     }
-    job
 }

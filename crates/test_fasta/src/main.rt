@@ -3,120 +3,113 @@
 
 #![tactic(auto)]
 
-ghost use Rattle.std.specs.Prelude.{◌≤◌, length};
+ghost use Rattle.std.specs.Prelude.{◌≤◌, length, IfSome};
 
 use answers::Told;
 use fasta::conversion::tell_conversion;
 use fasta::make_job;
-use memory::numerals::{Numeral, read_number};
-use std::io::Stdout;
+use memory::numerals::read_number;
+use std::io;
+use std::io::{Stdout, Write};
 use std::rt::{Env, Files};
 use streams::arguments::{argument, argument_count};
 use streams::files::open;
-use streams::printing::{print_decimal, write_all};
-use streams::reading::read_full;
-use streams::{Console, buffer, large_buffer};
-
-// A line on standard error.
-fn complain(console: &mut Console, line: &[u8]) {
-    write_all(&mut console.errors, line);
-}
+use streams::printing::write_all;
+use streams::reading::read_most;
+use streams::{Console, NAME_ROOM, Terminal, buffer};
 
 // The number, the place and the bytes used, in decimal.
-fn print_told(output: &mut Stdout, told: Told) {
-    print_decimal(output, told.number);
-    write_all(output, b" ");
-    print_decimal(output, told.place);
-    write_all(output, b" ");
-    print_decimal(output, told.used);
-    write_all(output, b"\n");
+fn print_told(output: &mut Stdout, told: Told) -> io::Result<()> {
+    let Told {
+        number,
+        place,
+        used,
+    } = told;
+    writeln!(output, "{number} {place} {used}")
 }
 
 // Whether all bytes from a place up to another have a value.
 fn filled(bytes: &[u8], from: usize, to: usize, value: u8) -> bool {
-    for i in 0..bytes.len() {
-        if (from <= i) & (i < to) & (bytes[i] != value) {
-            return false;
-        }
-    }
-    true
+    bytes.iter().take(to).skip(from).all(|byte| *byte == value)
 }
 
 // The job of a text, in memory of which a part is lent. The memory is not clear, so that what is left in the part, and what is written past
 // it, shows.
-fn show(output: &mut Stdout, text: &[u8], epsilon: u16, lent: usize, job: &mut [u8])
+fn show(
+    output: &mut Stdout,
+    text: &[u8],
+    epsilon: u16,
+    lent: usize,
+    job: &mut [u8],
+) -> io::Result<()>
     requires { lent ≤ length job.old }
 {
     let told = tell_conversion(make_job(text, epsilon, &mut job[..lent]));
-    print_told(output, told);
+    print_told(output, told)?;
     let used = told.used;
     if used <= lent {
-        write_all(output, &job[..used]);
+        write_all(output, &job[..used])?;
     } else {
-        write_all(output, b"more is used than was lent\n");
+        write_all(output, b"more is used than was lent\n")?;
     }
     if !filled(job, used, lent, 0) {
-        write_all(output, b"something is left in the memory\n");
+        write_all(output, b"something is left in the memory\n")?;
     }
     if !filled(job, lent, job.len(), 165) {
-        write_all(output, b"memory past the job was written\n");
+        write_all(output, b"memory past the job was written\n")?;
     }
+    Ok(())
 }
 
 // The text in the file that argument k names. A stored text has at most the 65,536 bytes of the buffer.
-fn show_file(rt: &(impl Env + Files), console: &mut Console, k: usize, epsilon: u16, lent: usize)
+fn show_file(rt: &(impl Env + Files), console: &mut Terminal, k: usize, epsilon: u16, lent: usize)
     requires { lent ≤ 17000 }
 {
-    let mut path = buffer();
-    let n = argument(rt, k, &mut path);
+    let mut path = buffer::<NAME_ROOM>();
+    let n = argument(rt, k, &mut path).unwrap_or(0);
     let Some(mut file) = open(rt, &path[..n], &mut console.errors) else {
         return;
     };
-    let mut text = large_buffer();
-    let n = read_full(&mut file, &mut text).length;
+    let mut text = buffer::<65536>();
+    let n = read_most(&mut file, &mut text);
     let mut job = [165u8; 17000];
-    show(&mut console.output, &text[..n], epsilon, lent, &mut job);
+    let _ = show(&mut console.output, &text[..n], epsilon, lent, &mut job);
 }
 
 // The number that argument k says. One that is missing, empty or too long leaves no bytes, and those write no number.
-fn number(environment: &impl Env, k: usize) -> Numeral {
-    let mut word = buffer();
-    let n = argument(environment, k, &mut word);
+fn number(environment: &impl Env, k: usize) -> Option<u16> {
+    let mut word = buffer::<NAME_ROOM>();
+    let n = argument(environment, k, &mut word).unwrap_or(0);
     read_number(&word[..n])
 }
 
-// The lent length that argument k says. What is no number is taken for one that is too large, so that one test refuses both.
-fn lent_length(environment: &impl Env, k: usize) -> usize {
+// The lent length that argument k says, if it says one.
+fn lent_length(environment: &impl Env, k: usize) -> Option<usize>
+    ensures { IfSome result (λ n. n ≤ 17000) }
+{
     match number(environment, k) {
-        Numeral::Number { value } => value as usize,
-        Numeral::Other => 17001,
+        Some(value) if value <= 17000 => Some(value as usize),
+        _ => None,
     }
 }
 
 // The job of three arguments, by their places.
 fn show_job(
     rt: &(impl Env + Files),
-    console: &mut Console,
+    console: &mut Terminal,
     lent_at: usize,
     epsilon_at: usize,
     file_at: usize,
 ) {
-    let lent = lent_length(rt, lent_at);
-    if 17000 < lent {
-        complain(
-            console,
-            b"test_fasta: the lent length is not a decimal number from 0 to 17000\n",
-        );
+    let Some(lent) = lent_length(rt, lent_at) else {
+        console.complain(b"test_fasta: the lent length is not a decimal number from 0 to 17000\n");
         return;
-    }
+    };
     match number(rt, epsilon_at) {
-        Numeral::Number { value } => show_file(rt, console, file_at, value, lent),
-        Numeral::Other => {
-            complain(
-                console,
-                b"test_fasta: the epsilon is not a decimal number from 0 to 65535\n",
-            )
-        }
+        Some(value) => show_file(rt, console, file_at, value, lent),
+        None => console.complain(
+            b"test_fasta: the epsilon is not a decimal number from 0 to 65535\n",
+        ),
     }
 }
 
@@ -127,16 +120,13 @@ fn main(rt: HostRuntime) {
         errors: rt.stderr(),
     };
     let count = argument_count(&rt);
-    let mut k = 1;
-    while k < count {
+    for k in (1..count).step_by(3) {
         if count - k < 3 {
-            complain(
-                &mut console,
+            console.complain(
                 b"test_fasta: arguments come in threes, bytes lent, epsilon and a file\n",
             );
             return;
         }
         show_job(&rt, &mut console, k, k + 1, k + 2);
-        k += 3;
     }
 }

@@ -1,68 +1,71 @@
 // One part of a job at a time, at every value: values that are answered alike are one line.
 
-use crate::show::{answer, number, put};
+use crate::show::answer;
 use answers::{Told, tell};
 use job::checks::check;
-use std::io::Stdout;
+use std::io;
+use std::io::{Stdout, Write};
 
-// The answer to the first n bytes.
-fn cut(job: &[u8], n: usize) -> Told {
-    if n < job.len() {
-        return tell(check(&job[0..n]));
-    }
-    tell(check(job))
+// What is changed of a job: how many bytes of it there are, a number of 16 bits at a place, or a byte at a place.
+#[derive(Clone, Copy)]
+pub(crate) enum Part {
+    Length,
+    Number { at: usize },
+    Byte { at: usize },
 }
 
 fn set(job: &mut [u8], at: usize, x: usize) {
-    if at < job.len() {
-        job[at] = (x % 256) as u8;
+    if let Some(byte) = job.get_mut(at) {
+        *byte = (x % 256) as u8;
     }
 }
 
-// The answer to so many bytes of a job (1), or to all of it with a number of 16 bits (2) or a byte (3) changed.
-fn changed(job: &mut [u8], what: usize, at: usize, value: usize) -> Told {
-    if what == 1 {
-        return cut(job, value);
+impl Part {
+    // The answer to the job with the part at a value.
+    fn answered(self, job: &mut [u8], value: usize) -> Told {
+        match self {
+            Part::Length => return tell(check(&job[..value.min(job.len())])),
+            Part::Number { at } => {
+                set(job, at, value);
+                set(job, at % 65536 + 1, value / 256);
+            }
+            Part::Byte { at } => set(job, at, value),
+        }
+        tell(check(job))
     }
-    set(job, at, value);
-    if what == 2 {
-        set(job, at % 65536 + 1, value / 256);
-        return tell(check(job));
+
+    // The largest value: all bytes are there, or all bits are set.
+    fn largest(self, job: &[u8]) -> usize {
+        match self {
+            Part::Length => job.len(),
+            Part::Number { .. } => 65535,
+            Part::Byte { .. } => 255,
+        }
     }
-    tell(check(job))
 }
 
 // The values from the first to the last were answered alike.
-fn put_run(output: &mut Stdout, first: usize, last: usize, told: Told) {
-    number(output, b"  ", first);
+fn put_run(output: &mut Stdout, first: usize, last: usize, told: Told) -> io::Result<()> {
+    write!(output, "  {first}")?;
     if first < last {
-        number(output, b"..", last);
+        write!(output, "..{last}")?;
     }
-    answer(output, told);
-}
-
-// The largest value: all bytes are there, or all bits are set.
-fn largest(job: &[u8], what: usize) -> usize {
-    match what {
-        1 => job.len(),
-        2 => 65535,
-        _ => 255,
-    }
+    answer(output, told)
 }
 
 // The part at every value, from 0 to the largest.
-pub(crate) fn damage_all(output: &mut Stdout, job: &mut [u8], what: usize, at: usize) {
-    put(output, b"\n");
-    let last = largest(job, what);
-    let mut told = changed(job, what, at, 0);
+pub(crate) fn damage_all(output: &mut Stdout, job: &mut [u8], part: Part) -> io::Result<()> {
+    writeln!(output)?;
+    let last = part.largest(job);
+    let mut told = part.answered(job, 0);
     let mut first = 0;
     for value in 0..last {
-        let new = changed(job, what, at, value + 1);
-        if new.number != told.number || new.place != told.place {
-            put_run(output, first, value, told);
+        let new = part.answered(job, value + 1);
+        if (new.number, new.place) != (told.number, told.place) {
+            put_run(output, first, value, told)?;
             told = new;
             first = value + 1;
         }
     }
-    put_run(output, first, last, told);
+    put_run(output, first, last, told)
 }

@@ -2,9 +2,8 @@
 use mathlib.Core.Path.{◌≡◌, sym, ◌∙◌}
 use Prim.Native.Nat.{ℕ}
 use Rattle.rules.specs.Job.{Bytes}
-use Rattle.rules.specs.declared.Answer.{Answer}
-use Rattle.text.specs.Printed.{TextLeft, BriefLeft}
-use Rattle.text.specs.declared.Printed.{Printed}
+use Rattle.rules.specs.Answers.{Answer}
+use Rattle.text.specs.Printed.{TextLeft, BriefLeft, Printed}
 
 module _ {job block : Bytes} {answer : Answer} {lent : ℕ} {out out' : Bytes} {r r' : Printed} where
   pub text-one : TextLeft job block answer lent out r → TextLeft job block answer lent out' r' → (out ≡ out') × (r ≡ r')

@@ -11,11 +11,10 @@ use lib.ListN.{length, get_or, length-append, length-take}
 use borrow.Author.Tests.{eqb-true, eqb-false, lt-ltb, le-ltb, eq-eqb, ne_eqb}
 use Rattle.graph.specs.Below.{gather}
 use Rattle.graph.proofs.Below.{length-gather, sum_bound}
-use Rattle.rules.specs.Answers.{number}
+use Rattle.rules.specs.Answers.{number, Answer}
 use Rattle.rules.specs.Job.{Bytes, word, width}
 use Rattle.rules.specs.Lookup.{Part, in_job, in_result, nowhere, part_of, states_of, lookup}
 use Rattle.rules.specs.Text.{text, origin_text, type_line, link_line}
-use Rattle.rules.specs.declared.Answer.{Answer}
 use Rattle.rules.specs.declared.Origin.TheVariants.{Sampled, Inferred}
 use Rattle.memory.proofs.decimals.Decimal.{length-decimal}
 use Rattle.readback.specs.ReadBack.{record_at, read_link}

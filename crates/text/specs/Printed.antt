@@ -1,28 +1,31 @@
 -- What the text of an answer is, and what is left in the memory lent for it.
-use Rattle.std.specs.Prelude.{◌≡◌, cond, not, ◌&&◌, [], ◌++◌, ℕ, ◌+◌, ◌*◌, ◌≤◌, ltb, eqb, length}
+use Rattle.std.specs.Prelude.{◌≡◌, cond, not, ◌&&◌, [], ◌++◌, ℕ, ◌+◌, ◌*◌, ◌≤◌, ltb, eqb, length, Result, Ok, Err}
 use Rattle.rules.specs.Result.{records_offset}
-use Rattle.rules.specs.Answers.{number}
+use Rattle.rules.specs.Answers.{number, Answer}
 use Rattle.rules.specs.Job.{Bytes, word}
 use Rattle.rules.specs.Call.{refused, padded}
 use Rattle.rules.specs.Text.{text, say, network_text, verdict_text}
-use Rattle.rules.specs.declared.Answer.{Answer}
 use Rattle.readback.specs.ReadBack.{network_back}
 use Rattle.text.specs.Lines.{legible, Legible}
 use Rattle.answers.specs.Told.{Tells}
 use Rattle.answers.specs.declared.Told.{Told}
-use Rattle.text.specs.declared.Printed.{Printed}
-use Rattle.text.specs.declared.Printed.TheVariants.{Done, Short, Block}
+use Rattle.text.specs.declared.Unprinted.{Unprinted}
+use Rattle.text.specs.declared.Unprinted.TheVariants.{Short, Block}
+
+-- How a text ends: with so many bytes, or without a text.
+abbrev pub Printed : Type 0
+Printed = Result ℕ Unprinted
 
 -- The numbers of these answers, and the bytes used; the place is 0.
 abbrev pub printed_number : Printed → ℕ
-printed_number (Done used) = 0
-printed_number Short = 80
-printed_number Block = 81
+printed_number (Ok used) = 0
+printed_number (Err Short) = 80
+printed_number (Err Block) = 81
 
 abbrev pub printed_used : Printed → ℕ
-printed_used (Done used) = used
-printed_used Short = 0
-printed_used Block = 0
+printed_used (Ok used) = used
+printed_used (Err Short) = 0
+printed_used (Err Block) = 0
 
 abbrev pub ToldText : Printed → Told → Type 0
 ToldText printed r = Tells (printed_number printed) 0 (printed_used printed) r
@@ -57,8 +60,8 @@ Suffices job block answer room = (number answer ≡ 0 → Legible job block) →
 -- 80 where the memory lent is shorter than asked for; then 81 where a network is to be printed and the block is not one of this job.
 abbrev pub printed_within : ℕ → ℕ → Bytes → Bytes → Answer → Printed
 printed_within room lent job block answer =
-    let done = Done (length (text_of job block answer)) in
-    cond (ltb lent room) Short (cond (eqb (number answer) 0 && not (legible job block)) Block done)
+    let done : Printed = (Ok (length (text_of job block answer))) in
+    cond (ltb lent room) (Err Short) (cond (eqb (number answer) 0 && not (legible job block)) (Err Block) done)
 
 -- Room for every text is asked for.
 unfoldable pub printed_as : ℕ → Bytes → Bytes → Answer → Printed
@@ -66,13 +69,13 @@ printed_as lent job block answer = printed_within text_room lent job block answe
 
 -- Nothing is half written.
 abbrev pub printed_bytes : Printed → Bytes → Bytes
-printed_bytes (Done used) xs = xs
-printed_bytes Short xs = []
-printed_bytes Block xs = []
+printed_bytes (Ok used) xs = xs
+printed_bytes (Err Short) xs = []
+printed_bytes (Err Block) xs = []
 
 -- The line of a refusal alone: 80 where the memory lent is shorter than asked for.
 abbrev pub refusal_within : ℕ → ℕ → ℕ → ℕ → Printed
-refusal_within room lent number place = cond (ltb lent room) Short (Done (length (refusal_of number place)))
+refusal_within room lent number place = cond (ltb lent room) (Err Short) (Ok (length (refusal_of number place)))
 
 abbrev pub refusal_as : ℕ → ℕ → ℕ → Printed
 refusal_as lent number place = refusal_within text_room lent number place

@@ -6,49 +6,45 @@
 pub mod listing;
 pub mod template;
 
-ghost use Rattle.std.specs.Prelude.{◌≡◌, ◌≤◌, leb, length, replicate};
+ghost use Rattle.std.specs.Prelude.{◌≡◌, ◌≤◌, IsErr, OkIff, length, replicate};
+ghost use Rattle.std.specs.Prelude.{Err};
 ghost use Rattle.memory.specs.Placed.{Follows};
 ghost use Rattle.text.specs.Lines.{Legible, legible, network_of};
+ghost use Rattle.text.specs.declared.Unprinted.TheVariants.{Short};
 ghost use Rattle.text.specs.Printed.{ToldText, refusal_of, line_room, network_room, brief_room, Suffices, RefusalWithin, RefusalLeft, TextWithin, TextLeft, BriefLeft};
 
 use crate::listing::{put_link_lines, put_network_line, put_type_lines};
 use crate::template::fill;
-use answers::{Told, tell};
+use answers::{Told, refusal, tell};
 use lookup::matching::block_matches;
-use memory::{clear_bytes, word_at};
+use memory::{clear, word_at};
 use rules::{Answer, LINK_SIZE, MOST_LINKS, RECORDS_OFFSET};
 
 // So many bytes are enough for every text.
 pub const TEXT_ROOM: usize = 172718;
 
-// How a text ends: with so many bytes; without the room that is asked for; or without a result block of this job to print.
-#[derive(Clone, Copy)]
-pub enum Printed {
-    Done { used: usize },
+// Why there is no text: without the room that is asked for, or without a result block of this job to print.
+#[derive(Clone, Copy, PartialEq, Eq, Debug)]
+pub enum Unprinted {
     Short,
     Block,
 }
 
-// Its number, its place, and the bytes used.
+// How a text ends: with so many bytes, or without a text.
+pub type Printed = Result<usize, Unprinted>;
+
+// Its number, its place, and the bytes used. (No `From`: neither `Result` nor `Told` is this crate's own.)
 pub fn tell_text(printed: Printed) -> Told
     ensures { ToldText printed result }
 {
     match printed {
-        Printed::Done { used } => Told {
+        Ok(used) => Told {
             number: 0,
             place: 0,
             used,
         },
-        Printed::Short => Told {
-            number: 80,
-            place: 0,
-            used: 0,
-        },
-        Printed::Block => Told {
-            number: 81,
-            place: 0,
-            used: 0,
-        },
+        Err(Unprinted::Short) => refusal(80, 0),
+        Err(Unprinted::Block) => refusal(81, 0),
     }
 }
 
@@ -81,12 +77,17 @@ fn put_network<'a>(job: &'a [u8], block: &'a [u8], out: &mut [u8]) -> usize
     put_link_lines(block, out, at)
 }
 
-// Zeros to the end, and whether there are so many bytes.
-fn make_room(room: usize, out: &mut [u8]) -> bool
-    ensures { (out.new ≡ replicate (length out.old) 0) × (result ≡ leb room (length out.old)) }
+// Zeros to the end, if there are so many bytes.
+fn make_room(room: usize, out: &mut [u8]) -> Result<(), Unprinted>
+    ensures zeros { out.new ≡ replicate (length out.old) 0 }
+    ensures roomy { OkIff result (room ≤ length out.old) tt }
+    ensures short { IsErr result → result ≡ Err Short }
 {
-    clear_bytes(out);
-    room <= out.len()
+    clear(out, 0);
+    if out.len() < room {
+        return Err(Unprinted::Short);
+    }
+    Ok(())
 }
 
 // The line of a refusal where so many bytes are lent. Zeros follow it to the end; without a text there are zeros throughout.
@@ -94,11 +95,8 @@ fn refusal_within(number: usize, place: usize, room: usize, out: &mut [u8]) -> P
     requires { line_room ≤ room }
     ensures { RefusalWithin number place room (length out.old) out.new result }
 {
-    if !make_room(room, out) {
-        return Printed::Short;
-    }
-    let used = put_refusal(number, place, out);
-    Printed::Done { used }
+    make_room(room, out)?;
+    Ok(put_refusal(number, place, out))
 }
 
 // The line of a refusal, whatever was refused, where there is room for every text.
@@ -120,18 +118,15 @@ fn text_within<'a>(
     requires { Suffices job.now block.now answer room }
     ensures { TextWithin job.now block.now answer room (length out.old) out.new result }
 {
-    let told = tell(answer);
-    if told.number != 0 {
+    if answer.is_err() {
+        let told = tell(answer);
         return refusal_within(told.number, told.place, room, out);
     }
-    if !make_room(room, out) {
-        return Printed::Short;
-    }
+    make_room(room, out)?;
     if !is_legible(job, block) {
-        return Printed::Block;
+        return Err(Unprinted::Block);
     }
-    let used = put_network(job, block, out);
-    Printed::Done { used }
+    Ok(put_network(job, block, out))
 }
 
 // The text of an answer, where there is room for every text.
@@ -145,8 +140,7 @@ pub fn text<'a>(job: &'a [u8], block: &'a [u8], answer: Answer, out: &mut [u8]) 
 fn brief_room(block: &[u8], answer: Answer) -> usize
     ensures { result ≡ brief_room block.now answer }
 {
-    let told = tell(answer);
-    if told.number != 0 {
+    if answer.is_err() {
         return 50;
     }
     if block.len() < RECORDS_OFFSET {

@@ -53,12 +53,9 @@ pub fn put_type_lines<'a>(job: &'a [u8], block: &'a [u8], out: &mut [u8], at: us
     requires { Legible job.now block.now × (at + length (type_lines_of job.now block.now) ≤ length out.old) }
     ensures { Follows out.old at (type_lines_of job.now block.now) out.new result }
 {
-    let t = word_at(block, 0);
     let mut at = at;
-    let mut k = 0;
-    while k < t {
+    for k in 0..word_at(block, 0) {
         at = put_type_line(job, block, k, out, at);
-        k += 1;
     }
     at
 }
@@ -80,12 +77,9 @@ pub fn put_link_lines(block: &[u8], out: &mut [u8], at: usize) -> usize
     ensures { Follows out.old at (link_lines_of block.now) out.new result }
 {
     let from = word_at(block, 14);
-    let l = word_at(block, 6);
     let mut at = at;
-    let mut k = 0;
-    while k < l {
+    for k in 0..word_at(block, 6) {
         at = put_link_line(block, from + LINK_SIZE * k, out, at);
-        k += 1;
     }
     at
 }

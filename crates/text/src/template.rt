@@ -28,10 +28,8 @@ pub fn fill(out: &mut [u8], at: usize, s: &[u8], numbers: &[usize], row: &[u8]) 
     ensures { Follows out.old at (filled s.now numbers.now row.now) out.new result }
 {
     let mut at = at;
-    let mut i = 0;
-    while i < s.len() {
-        at = put_piece(out, at, s[i], numbers, row);
-        i += 1;
+    for byte in s {
+        at = put_piece(out, at, *byte, numbers, row);
     }
     at
 }

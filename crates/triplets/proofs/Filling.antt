@@ -1,5 +1,5 @@
 -- The table of followers is filled: a line from its end to its start, and line after line.
-use mathlib.Core.Path.{◌≡◌, refl, ◌∙◌}
+use mathlib.Core.Path.{◌≡◌, ◌∙◌}
 use mathlib.Core.Logic.{◌⊎◌, ⊎_elim, ◌≢◌}
 use mathlib.Core.Bool.{true, false}
 use mathlib.Core.List.{List}
@@ -11,18 +11,10 @@ use lib.ListN.{length, set, length-set}
 use lib.Seq.{get_or-set_same, get_or-set_other}
 use borrow.Author.Tests.{eq-eqb, ne_eqb}
 use Rattle.links.specs.Marks.{marked}
-use Rattle.triplets.specs.Followers.{Follower, follower_at, Followers, FollowLine}
+use Rattle.triplets.specs.Followers.{Follower, follower_at, FollowLine}
 
 module _ {area : List ℕ} {n c : ℕ} where
-  -- The follower at a place: past the last type, at a type that is linked, and at one that is not.
-  pub follower_none : Follower area n c n n
-  follower_none = record {
-    from = omega arith;
-    within = omega arith;
-    none_between = λ j h l. absurd (omega arith);
-    linked = λ h. absurd (omega arith);
-  }
-
+  -- The follower at a place: at a type that is linked, and at one that is not.
   follower_here : {i : ℕ} → i < n → marked area c i ≡ true → Follower area n c i i
   follower_here h t = record {
     from = omega arith;
@@ -39,10 +31,6 @@ module _ {area : List ℕ} {n c : ℕ} where
     linked = f.linked;
   }
 
-  -- No type is linked with itself.
-  pub follower_self : {r : ℕ} → Follower area n c (c + 1) r → Follower area n c c r
-  follower_self f = follower_later refl (rw (eq-eqb c c refl)) f
-
 module _ {area : List ℕ} {n c : ℕ} where
   -- One place more, the one before those filled.
   pub one-filled : {before next : List ℕ} {i r : ℕ} (j : ℕ) → i ≡ j + 1 → j ≤ n → n ≤ 128 → c < n → length before ≡ 16512 →
@@ -56,21 +44,6 @@ module _ {area : List ℕ} {n c : ℕ} where
     kept = λ d k other g.
         get_or-set_other next (129 * c + j) (129 * d + k) r 0 (λ s. other (omega arith)) ∙ t.kept d k other g;
   }
-
-  -- No place is filled yet, and the place behind the last type is filled first.
-  none_filled : (before : List ℕ) → FollowLine area n c (n + 1) before before
-  none_filled before = record { size = refl; line = λ k h l. absurd (omega arith); kept = λ d k other h. refl }
-
-  pub first-filled : {before : List ℕ} → n ≤ 128 → c < n → length before ≡ 16512 → FollowLine area n c n before (set before (129 * c + n) n)
-  first-filled {before} small l room = one-filled n refl (omega arith) small l room (none_filled before) follower_none
-
-  -- What is filled since then, and what was filled before.
-  pub filled-since : {before next : List ℕ} {i : ℕ} → FollowLine area n c i before next → FollowLine area n c i next next
-  filled-since t = record { size = refl; line = t.line; kept = λ d k other h. refl }
-
-  pub filled_then : {before mid next : List ℕ} {i j : ℕ} → FollowLine area n c i before mid → FollowLine area n c j mid next →
-      FollowLine area n c j before next
-  filled_then t s = record { size = s.size ∙ t.size; line = s.line; kept = λ d k other h. s.kept d k other h ∙ t.kept d k other h }
 
 -- A line is filled from place i on, and this is the follower there.
 pub record Filling (area : List ℕ) (n c i follower : ℕ) (before next : List ℕ) : Type 0 where
@@ -98,20 +71,3 @@ pub record Lines (area : List ℕ) (n c : ℕ) (next : List ℕ) : Type 0 where
   pub passed : c ≤ n
   pub size : length next ≡ 16512
   pub each : (d i : ℕ) → d < c → i ≤ n → Follower area n d i (follower_at next d i)
-
-pub no_line : (area : List ℕ) (n : ℕ) (next : List ℕ) → length next ≡ 16512 → Lines area n 0 next
-no_line area n next room = record { passed = omega arith; size = room; each = λ d i h l. absurd (omega arith) }
-
-pub one_line : {area : List ℕ} {n c : ℕ} {before after : List ℕ} → c < n → n ≤ 128 → Lines area n c before → FollowLine area n c 0 before after →
-    Lines area n (c + 1) after
-one_line {c = c} h small t f = record {
-  passed = omega arith;
-  size = f.size ∙ t.size;
-  each = λ d i g l. elim (ℕ_discrete d c) [
-    | yes e ↦ rw e (f.line i (omega arith) l)
-    | no other ↦ rw (f.kept d i other (omega arith)) (t.each d i (omega arith) l)
-  ];
-}
-
-pub all_lines : {area : List ℕ} {n c : ℕ} {next : List ℕ} → n ≤ c → Lines area n c next → Followers area n next
-all_lines h t = record { size = t.size; each = λ d i g l. t.each d i (omega (arith, t.passed)) l }

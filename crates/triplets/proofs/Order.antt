@@ -10,8 +10,6 @@ use native.Mathlib.Decide.{ℕ_discrete, dec_lt}
 use native.Mathlib.Omega.{arith}
 use lib.Dec.{eqb}
 use lib.ListN.{get_or}
-use mir.Syntax.{w16}
-use mir.Val.{Fits}
 use borrow.Author.Tests.{lt-ltb, le-ltb, eq-eqb, ne_eqb}
 use Rattle.rules.specs.Median.{two_of}
 use Rattle.distances.specs.Area.{cell_at}
@@ -143,12 +141,9 @@ module _ (area : List ℕ) (u v w : ℕ) (h : u < v) (l : v < w) where
   pub seat : two_of (marked area u v) (marked area u w) (marked area v w) ≡ true → Seat area u v w
   seat t = seated (marked area u v) (marked area u w) (marked area v w) refl refl refl t
 
--- The sum of a triplet's distances, and its bound.
+-- The sum of a triplet's distances.
 abbrev pub sum_of : List ℕ → Triplet → ℕ
 sum_of area t = cell_at area t.u t.v + cell_at area t.u t.w + cell_at area t.v t.w
-
-pub sum-small : (area : List ℕ) (t : Triplet) → ((p : ℕ) → Fits w16 (get_or area p 0)) → sum_of area t ≤ 196605
-sum-small area t small = omega (arith, small (128 * t.u + t.v), small (128 * t.u + t.w), small (128 * t.v + t.w))
 
 -- One type lies between the other two, by their distances.
 abbrev pub Between : ℕ → ℕ → ℕ → Type 0

@@ -1,3 +1,2 @@
 pub mod Mismatches
-pub mod Narrow
 pub mod Cached

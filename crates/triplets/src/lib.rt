@@ -20,7 +20,7 @@ pub const FOLLOWERS_LINE: usize = MOST_TYPES + 1;
 
 pub const FOLLOWERS: usize = MOST_TYPES * FOLLOWERS_LINE;
 
-// More than any cost: what stands for no cost at all.
+// More than any cost: what stands for no cost at all. (A number and no Option, as the least of many floors is looked for by comparing.)
 pub const NO_COST: usize = 200000;
 
 // Three types, ascending.
@@ -32,18 +32,16 @@ pub struct Triplet {
 }
 
 // Line c of the table above place c: at place i the first type from i on that is linked with type c, or n where none is. Types above
-// c have their marks down column c. Hands back the first of them that is linked with c.
+// c have their marks down column c. Hands back the first of them that is linked with c: a number and no Option, as the table holds.
 fn follow_above(area: &[u16], next: &mut [u16], n: usize, c: usize) -> u16
     requires { (n ≤ most_types) × (c < n) × (distance_area ≤ length area.now) × (length next.old ≡ followers_size) }
     ensures { Follower area.now n c (c + 1) result
         × FollowLine area.now n c (c + 1) next.old next.new }
 {
     let line = FOLLOWERS_LINE * c;
-    let mut i = n;
     let mut follower = n as u16;
-    next[line + i] = follower;
-    while c + 1 < i {
-        i -= 1;
+    next[line + n] = follower;
+    for i in (c + 1..n).rev() {
         if area[LINE * i + c] == 1 {
             follower = i as u16;
         }
@@ -60,11 +58,9 @@ fn follow_below(area: &[u16], next: &mut [u16], n: usize, c: usize, above: u16)
 {
     let line = FOLLOWERS_LINE * c;
     let marks = LINE * c;
-    let mut i = c;
     let mut follower = above;
-    next[line + i] = follower;
-    while 0 < i {
-        i -= 1;
+    next[line + c] = follower;
+    for i in (0..c).rev() {
         if area[marks + i] == 1 {
             follower = i as u16;
         }
@@ -77,11 +73,9 @@ pub fn followers(area: &[u16], next: &mut [u16], n: usize)
     requires { (n ≤ most_types) × (distance_area ≤ length area.now) × (length next.old ≡ followers_size) }
     ensures { Followers area.now n next.new }
 {
-    let mut c = 0;
-    while c < n {
+    for c in 0..n {
         let above = follow_above(area, next, n, c);
         follow_below(area, next, n, c, above);
-        c += 1;
     }
 }
 
@@ -104,9 +98,7 @@ pub fn cost_floor(area: &[u16], t: Triplet) -> usize
     requires { (t.u < most_types) × (t.v < most_types) × (t.w < most_types) × (distance_area ≤ length area.now) }
     ensures { result ≡ cost_floor area.now t }
 {
-    let u = t.u;
-    let v = t.v;
-    let w = t.w;
+    let Triplet { u, v, w } = t;
     let uv = area[LINE * u + v] as usize;
     let uw = area[LINE * u + w] as usize;
     let vw = area[LINE * v + w] as usize;

@@ -7,8 +7,8 @@ ghost use Rattle.triplets.specs.Mismatches.{bit, mismatches_in, Unused, Narrow, 
 
 use rules::{LINE, MOST_WIDTH, ROW};
 
-// Mismatches that are not known yet. (Rows that agree in the first of 64 characters only have this number too: theirs are found each
-// time.)
+// Mismatches that are not known yet: a number and no Option, since the lent memory has one number for every two rows. (Rows that agree
+// in the first of 64 characters only have this number too: theirs are found each time.)
 pub const UNKNOWN: u64 = 18446744073709551614;
 
 // Whether a row made holds a state in character c.
@@ -16,14 +16,7 @@ fn in_use(states: &[u8], made: usize, c: usize) -> bool
     requires { (c < most_width) × (row_size * made ≤ length states.now) }
     ensures { result ≡ false → Unused states.now made c }
 {
-    let mut i = 0;
-    while i < made {
-        if states[ROW * i + c] != 0 {
-            return true;
-        }
-        i += 1;
-    }
-    false
+    (0..made).any(|i| states[ROW * i + c] != 0)
 }
 
 // How many characters are in use: from here on every row made holds zeros.
@@ -31,21 +24,19 @@ pub fn width_in_use(states: &[u8], made: usize) -> usize
     requires { row_size * made ≤ length states.now }
     ensures { Narrow states.now made result }
 {
-    let mut m = MOST_WIDTH;
-    while 0 < m {
-        if in_use(states, made, m - 1) {
-            return m;
+    for c in (0..MOST_WIDTH).rev() {
+        if in_use(states, made, c) {
+            return c + 1;
         }
-        m -= 1;
     }
-    m
+    0
 }
 
 // 1 where two states differ.
 fn unlike(x: u8, y: u8) -> u64
     ensures { result ≡ bit (not (eqb x y)) }
 {
-    if x == y { 0 } else { 1 }
+    u64::from(x != y)
 }
 
 // The mismatches of rows i and j, of m characters.
@@ -56,9 +47,7 @@ fn find_mismatches(states: &[u8], m: usize, i: usize, j: usize) -> u64
     let first = ROW * i;
     let second = ROW * j;
     let mut bits = 0u64;
-    let mut c = m;
-    while 0 < c {
-        c -= 1;
+    for c in (0..m).rev() {
         bits = bits * 2 + unlike(states[first + c], states[second + c]);
     }
     bits

@@ -1,2 +1,1 @@
 pub mod State
-pub mod Eight

@@ -1,9 +1,10 @@
 -- What collapsing a job's rows must do.
-use Rattle.std.specs.Prelude.{◌≡◌, cond, List, length, take}
-use Rattle.rules.specs.Answers.{when◌refuse◌else◌, passed}
+use Rattle.std.specs.Prelude.{◌≡◌, cond, List, length, take, Result, Ok, Err}
+use Rattle.rules.specs.Answers.{when◌refuse◌else◌}
 use Rattle.rules.specs.Job.{Bytes, Row, width, job_rows}
-use Rattle.rules.specs.Types.{rows_of, sampled, has_too_many, row129}
-use Rattle.rules.specs.declared.Answer.TheVariants.{Types}
+use Rattle.rules.specs.Types.{Node, rows_of, sampled, has_too_many, row129}
+use Rattle.rules.specs.declared.Refusal.{Refusal}
+use Rattle.rules.specs.declared.Refusal.TheVariants.{Types}
 use Rattle.memory.specs.Placed.{placed}
 use Rattle.types.specs.State.{laid, kinds_of, nodes_in}
 use Rattle.types.specs.declared.sample.Sample.{Sample}
@@ -12,10 +13,13 @@ use Rattle.types.specs.declared.sample.Sample.{Sample}
 unfoldable pub entered : List Row → List Row
 entered rs = take (cond (has_too_many rs) (row129 rs) (length rs)) rs
 
--- The answer is TYPES exactly over 128 types. State area and kinds, read back, are the sampled types of the rows entered. Kinds
--- not in use are blank, and the area past the last type is as it was.
-pub record Collapsed (job before after : Bytes) (r : Sample) : Type 0 where
-  pub answered : r.answer ≡ (when has_too_many (job_rows job) refuse Types (row129 (job_rows job)) else passed)
-  pub read_back : nodes_in (width job) r.types after r.kinds ≡ sampled (entered (job_rows job))
-  pub kinds_left : r.kinds ≡ kinds_of (sampled (entered (job_rows job)))
+-- What is told of types: how many there are, and their kinds. Kinds not in use are blank.
+abbrev pub sample_of : List Node → Sample
+sample_of ts = record { types = length ts; kinds = kinds_of ts }
+
+-- TYPES exactly over 128 types, and else the sampled types of all rows. State area and kinds, read back, are the sampled types of the rows
+-- entered, and the area past the last type is as it was.
+pub record Collapsed (job before after : Bytes) (r : Result Sample Refusal) : Type 0 where
+  pub answered : r ≡ (when has_too_many (job_rows job) refuse Err (Types (row129 (job_rows job))) else Ok (sample_of (sampled (job_rows job))))
+  pub read_back : let ts = sampled (entered (job_rows job)) in nodes_in (width job) (length ts) after (kinds_of ts) ≡ ts
   pub states_left : after ≡ placed before 0 (laid (rows_of (sampled (entered (job_rows job)))))

@@ -11,7 +11,6 @@ ghost use Rattle.rules.specs.Sizes.{most_types, row_size};
 ghost use Rattle.rules.specs.Types.{is_same_row};
 ghost use Rattle.types.specs.State.{stored_at, blank};
 
-use memory::{copy, eight_at};
 use rules::{Kind, MOST_TYPES, Origin, ROW};
 
 // The row of type i, as it is stored.
@@ -20,42 +19,29 @@ pub fn row_at(states: &[u8], i: usize) -> [u8; ROW]
     ensures { result ≡ stored_at states.now i }
 {
     let from = ROW * i;
-    let mut row = [0u8; ROW];
-    copy(&states[from..from + ROW], &mut row, 0);
-    row
+    <[u8; ROW]>::try_from(&states[from..from + ROW]).unwrap()
 }
 
-// Whether type i of the state area has this row: eight bytes are compared at once.
+// Whether type i of the state area has this row.
 pub fn same_row(states: &[u8], i: usize, row: &[u8; ROW]) -> bool
     requires { row_size * i + row_size ≤ length states.now }
     ensures { result ≡ is_same_row (stored_at states.now i) row.now }
 {
-    let at = ROW * i;
-    // as a slice, the row is known to have 64 bytes
-    let bytes: &[u8] = row;
-    let mut k = 0;
-    while k < 8 {
-        if eight_at(states, at + 8 * k) != eight_at(bytes, 8 * k) {
-            return false;
-        }
-        k += 1;
-    }
-    true
+    let from = ROW * i;
+    states[from..from + ROW] == row[..]
 }
 
-// The first of t types that has this row, or t where none does.
+// The first of t types that has this row, or t where none does: `first` of the definitions is such a number, and t is the next free place.
 pub fn find_row(states: &[u8], t: usize, row: &[u8; ROW]) -> usize
     requires { row_size * t ≤ length states.now }
     ensures { result ≡ first t (λ i. is_same_row (stored_at states.now i) row.now) }
 {
-    let mut i = 0;
-    while i < t {
+    for i in 0..t {
         if same_row(states, i, row) {
             return i;
         }
-        i += 1;
     }
-    i
+    t
 }
 
 // Room for 128 kinds, none of them in use.

@@ -11,12 +11,11 @@ ghost use Rattle.types.specs.Collapse.{Collapsed};
 
 use crate::{find_row, no_kinds};
 use memory::copy;
-use rules::{Answer, Kind, MOST_TYPES, Origin, ROW};
+use rules::{Kind, MOST_TYPES, Origin, ROW, Refusal};
 
-// What the rows collapse to: how many types there are, and their kinds; or the refusal TYPES.
+// What the rows collapse to: how many types there are, and their kinds.
 #[derive(Clone, Copy)]
 pub struct Sample {
-    pub answer: Answer,
     pub types: usize,
     pub kinds: [Kind; MOST_TYPES],
 }
@@ -47,15 +46,14 @@ fn one_more(kind: Kind) -> Kind
     }
 }
 
-// RULES 5.1, 5.2: rows become sampled types, each at its first row.
-pub fn collapse(job: &[u8], states: &mut [u8], n: usize, m: usize) -> Sample
+// RULES 5.1, 5.2: rows become sampled types, each at its first row; or the refusal TYPES.
+pub fn collapse(job: &[u8], states: &mut [u8], n: usize, m: usize) -> Result<Sample, Refusal>
     requires { (number (checked job.now) ≡ 0) × (n ≡ rows job.now) × (m ≡ width job.now) × (state_area ≤ length states.old) }
     ensures { Collapsed job.now states.old states.new result }
 {
     let mut kinds = no_kinds();
     let mut types = 0;
-    let mut k = 0;
-    while k < n {
+    for k in 0..n {
         let row = job::row(job, m, k);
         let alone = single(k);
         let i = find_row(states, types, &row);
@@ -63,21 +61,12 @@ pub fn collapse(job: &[u8], states: &mut [u8], n: usize, m: usize) -> Sample
             let kind = kinds[i];
             kinds[i] = one_more(kind);
         } else if types == MOST_TYPES {
-            return Sample {
-                answer: Answer::Types { place: k },
-                types,
-                kinds,
-            };
+            return Err(Refusal::Types { place: k });
         } else {
             copy(&row, states, ROW * types);
             kinds[types] = alone;
             types += 1;
         }
-        k += 1;
     }
-    Sample {
-        answer: Answer::Done { used: 0 },
-        types,
-        kinds,
-    }
+    Ok(Sample { types, kinds })
 }

@@ -7,14 +7,7 @@ pub loop-c-init : goal.loop-c-init
 loop-c-init c = none_summed _ _ _ _
 
 pub loop-c-preserved : goal.loop-c-preserved
-loop-c-preserved c =
-    let l = c in
-    rw c.counted-sum.ensures (one_more _ _ _ _ (omega arith) l.loop-c.invariant l.requires.0)
-
-pub overflow_add-sum : goal.overflow_add-sum
-overflow_add-sum c = omega (arith, (loop-c-preserved c).small)
+loop-c-preserved c = rw c.counted-sum.ensures (one_more _ _ _ _ (omega arith) c.loop-c.invariant c.requires.0)
 
 pub returns : goal.returns
-returns c =
-    let l = c in
-    all_summed _ _ _ _ l.requires.0 l.loop-c.c _ (omega arith) l.loop-c.invariant
+returns c = all_summed _ _ _ _ c.requires.0 (omega arith) c.loop-c.invariant

@@ -1,10 +1,6 @@
 -- `distances::distance` meets its contract: after c characters the sum is that of the first c.
-use Prim.Native.Nat.{◌-◌}
 use Rattle.distances.proofs.Summed.{Summed}
 use Rattle.distances.proofs.distance.Given as goal
 
 abbrev pub invariant-loop-c : goal.invariant-loop-c
 invariant-loop-c l = Summed l.weights l.states l.i l.j l.c l.sum
-
-abbrev pub decreases-loop-c : goal.decreases-loop-c
-decreases-loop-c l = 64 - l.c

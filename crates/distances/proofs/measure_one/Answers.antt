@@ -3,9 +3,6 @@ use native.Mathlib.Omega.{arith}
 use Rattle.distances.proofs.Area.{cell-passed, all-passed}
 use Rattle.distances.proofs.measure_one.Goals as goal
 
-pub distance-requires : goal.distance-requires
-distance-requires c = let p = c.requires in (p.0, omega arith, p.2)
-
 pub loop-i-preserved : goal.loop-i-preserved
 loop-i-preserved c = cell-passed c.loop-i.invariant (omega arith) (omega arith) c.distance.ensures
 

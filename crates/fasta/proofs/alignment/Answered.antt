@@ -1,18 +1,20 @@
 -- What was read of a text, up to its first fault.
-use mathlib.Core.Path.{◌≡◌, ◌∙◌}
+use mathlib.Core.Path.{◌≡◌, sym, ◌∙◌}
 use mathlib.Core.Bool.{true}
+use Rattle.std.proofs.Common.{Ok, Err}
 use Prim.Native.Nat.{ℕ, ◌<◌}
 use native.Mathlib.Omega.{arith}
 use lib.ListN.{length}
 use borrow.Author.Tests.{lt-ltb, le-ltb}
 use Rattle.graph.proofs.Below.{first-is}
 use Rattle.rules.specs.Job.{Bytes}
-use Rattle.fasta.specs.Answers.{refuses, no_fault}
-use Rattle.fasta.specs.declared.conversion.Conversion.{Conversion}
+use Rattle.fasta.specs.Answers.{refuses}
+use Rattle.fasta.specs.declared.conversion.Fault.{Fault}
+use Rattle.fasta.proofs.conversion.Answers.{fault-refuses}
 use Rattle.fasta.specs.Sequences.{opened}
 use Rattle.fasta.specs.Refusals.{fault_at, first_fault}
 use Rattle.fasta.specs.Read.{lengths_to, ReadAll}
-use Rattle.fasta.proofs.alignment.Faults.{Clear}
+use Rattle.fasta.proofs.alignment.Faults.{Clear, few-opened}
 
 -- Reading ends at the first fault, or behind the last byte.
 module _ (text : Bytes) where
@@ -24,14 +26,14 @@ module _ (text : Bytes) where
   unfolding first_fault
   no_first-fault clear = first-is _ _ (length text) (omega arith) clear (λ l. absurd (omega arith))
 
-  pub read-fault : {lengths : Bytes} {r : Conversion} {begun : ℕ} (i : ℕ) → i < length text → Clear text i → r ≡ fault_at text i → refuses r ≡ true →
-      begun ≡ opened text i → lengths ≡ lengths_to text i → ReadAll text lengths (record { answer = r; begun = begun })
-  read-fault i h clear f t b l =
-      let e = first-fault i h clear (rw f at t) in
-      record { answer_is = rw (e, lt-ltb i (length text) h) f; begun_is = rw e b; lengths_are = rw e l }
+  pub read-fault : {lengths : Bytes} {fault : Fault} (i : ℕ) → i < length text → Clear text i → fault_at text i ≡ Err fault →
+      lengths ≡ lengths_to text i → ReadAll text lengths (Err fault)
+  read-fault {fault} i h clear f l =
+      let e = first-fault i h clear (rw f (fault-refuses fault)) in
+      record { answer_is = rw (e, lt-ltb i (length text) h) (sym f); begun_is = tt; few = tt; lengths_are = rw e l }
 
   pub read_whole : {lengths : Bytes} {begun : ℕ} (i : ℕ) → i ≡ length text → Clear text i →
-      begun ≡ opened text i → lengths ≡ lengths_to text i → ReadAll text lengths (record { answer = no_fault; begun = begun })
+      begun ≡ opened text i → lengths ≡ lengths_to text i → ReadAll text lengths (Ok begun)
   read_whole i h clear b l =
       let e = no_first-fault (rw h at clear) in
-      record { answer_is = rw (e, le-ltb (length text) (length text) (omega arith)); begun_is = b ∙ rw (e, h); lengths_are = l ∙ rw (e, h) }
+      record { answer_is = rw (e, le-ltb (length text) (length text) (omega arith)); begun_is = b ∙ rw (e, h); few = omega (arith, few-opened text i clear); lengths_are = l ∙ rw (e, h) }

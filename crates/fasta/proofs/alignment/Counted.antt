@@ -1,6 +1,7 @@
 -- Laws of the lengths counted up to a byte, and of one byte more.
 use mathlib.Core.Path.{◌≡◌, sym, ap, ◌∙◌}
 use mathlib.Core.Bool.{true, false}
+use Rattle.std.proofs.Common.{Ok, Err}
 use Prim.Native.Nat.{ℕ, suc, ◌+◌, ◌-◌, ◌≤◌, ◌<◌}
 use native.Mathlib.Omega.{arith}
 use native.Mathlib.Decide.{ℕ_discrete}
@@ -10,8 +11,9 @@ use Rattle.graph.specs.Below.{gather}
 use Rattle.graph.proofs.Below.{table_ext, length-table, get_or-table}
 use Rattle.rules.specs.Job.{Bytes}
 use Rattle.fasta.specs.Lines.{is_state}
-use Rattle.fasta.specs.Answers.{refuses, no_fault}
-use Rattle.fasta.specs.declared.conversion.Conversion.{Conversion}
+use Rattle.fasta.specs.Answers.{no_fault}
+use Rattle.fasta.specs.declared.conversion.Fault.{Fault}
+use Rattle.fasta.proofs.conversion.Answers.{fault-refuses}
 use Rattle.fasta.specs.Sequences.{opened, joined}
 use Rattle.fasta.specs.Refusals.{held, fault_at}
 use Rattle.fasta.specs.Read.{lengths_to, CountedTo, Taken}
@@ -58,18 +60,17 @@ module _ (text : Bytes) (i : ℕ) where
       ])
 
   -- A fault is not counted, and a byte that passes is.
-  pub taken-fault : {lengths : Bytes} {r : Conversion} → fault_at text i ≡ r → refuses r ≡ true → lengths ≡ lengths_to text i → Taken text i lengths r
-  taken-fault e t l = record { fault_is = sym e; lengths_are = rw (e, t) l }
+  pub taken-fault : {lengths : Bytes} {fault : Fault} → fault_at text i ≡ Err fault → lengths ≡ lengths_to text i → Taken text i lengths (Err fault)
+  taken-fault {fault} e l = record { fault_is = sym e; lengths_are = rw (e, fault-refuses fault) l }
 
-  pub taken-passed : {lengths : Bytes} → fault_at text i ≡ no_fault → lengths ≡ lengths_to text (suc i) → Taken text i lengths no_fault
+  pub taken-passed : {lengths : Bytes} {done : Unit} → fault_at text i ≡ no_fault → lengths ≡ lengths_to text (suc i) → Taken text i lengths (Ok done)
   taken-passed e l = record { fault_is = sym e; lengths_are = rw e l }
 
-  module _ {lengths : Bytes} {r : Conversion} (t : Taken text i lengths r) where
-    pub fault-left : refuses r ≡ true → lengths ≡ lengths_to text i
-    fault-left e = t.lengths_are ∙ rw (← t.fault_is, e)
+  pub fault-left : {lengths : Bytes} {fault : Fault} → Taken text i lengths (Err fault) → lengths ≡ lengths_to text i
+  fault-left {fault} t = t.lengths_are ∙ rw (← t.fault_is, fault-refuses fault)
 
-    pub passed-left : refuses r ≡ false → lengths ≡ lengths_to text (suc i)
-    passed-left e = t.lengths_are ∙ rw (← t.fault_is, e)
+  pub passed-left : {lengths : Bytes} {done : Unit} → Taken text i lengths (Ok done) → lengths ≡ lengths_to text (suc i)
+  passed-left t = t.lengths_are ∙ rw (← t.fault_is)
 
 -- The same of the lengths in memory.
 module _ (text : Bytes) (i : ℕ) {begun : ℕ} {lengths : Bytes} (c : CountedTo text i begun lengths) where

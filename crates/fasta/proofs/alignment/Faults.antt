@@ -4,6 +4,7 @@ use mathlib.Core.Bool.{Bool, true, false, cond, ◌&&◌, and-eq-true_iff, true�
 use mathlib.Core.List.{◌++◌}
 use Prim.Native.Nat.{ℕ, zero, suc, ◌+◌, ◌-◌, ◌≤◌, ◌<◌}
 use native.Mathlib.Omega.{arith}
+use Rattle.std.proofs.Common.{Err}
 use lib.Dec.{ltb, eqb}
 use lib.ListN.{length, length-append}
 use borrow.Author.Tests.{lt-ltb, le-ltb, eq-eqb, ne_eqb, ltb-false, eqb-true}
@@ -14,7 +15,7 @@ use Rattle.rules.proofs.Job.{Within, within}
 use Rattle.fasta.specs.Lines.{byte_at, opens, is_state}
 use Rattle.fasta.proofs.lines.Lines.{no_opener}
 use Rattle.fasta.specs.Answers.{refuses, no_fault}
-use Rattle.fasta.specs.declared.conversion.Conversion.TheVariants.{Before, Byte, Wide, Many}
+use Rattle.fasta.specs.declared.conversion.Fault.TheVariants.{Before, Byte, Wide, Many}
 use Rattle.fasta.proofs.conversion.Answers.{not_no_size}
 use Rattle.fasta.specs.Sequences.{opened, in_sequence, joined}
 use Rattle.fasta.specs.Refusals.{before_first, in_some, bad_byte, held, one_too_wide, one_too_many, fault_at, first_fault}
@@ -22,15 +23,15 @@ use Rattle.fasta.specs.Refusals.{before_first, in_some, bad_byte, held, one_too_
 -- ── Of a state ──
 
 module _ (text : Bytes) (i : ℕ) (s : is_state text i ≡ true) where
-  pub before-is : opened text i ≡ 0 → fault_at text i ≡ Before i
+  pub before-is : opened text i ≡ 0 → fault_at text i ≡ Err (Before i)
   before-is e = rw (s, eq-eqb (opened text i) 0 e)
 
   module _ (some : 1 ≤ opened text i) where
-    pub byte_is : outside 33 126 (byte_at text i) ≡ true → fault_at text i ≡ Byte i
+    pub byte_is : outside 33 126 (byte_at text i) ≡ true → fault_at text i ≡ Err (Byte i)
     byte_is o = rw (s, ne_eqb (opened text i) 0 (omega arith), lt-ltb 0 (opened text i) some, o)
 
     module _ (good : outside 33 126 (byte_at text i) ≡ false) where
-      pub wide_is : 64 ≤ held text i → fault_at text i ≡ Wide i
+      pub wide_is : 64 ≤ held text i → fault_at text i ≡ Err (Wide i)
       wide_is h =
           rw (s, ne_eqb (opened text i) 0 (omega arith), lt-ltb 0 (opened text i) some, good, lt-ltb 64 (suc (held text i)) (omega arith))
 
@@ -52,7 +53,7 @@ module _ (text : Bytes) (i : ℕ) (s : is_state text i ≡ false) where
   skipped-passes o = rw (s, o)
 
   module _ (o : opens text i ≡ true) where
-    pub many_is : 256 ≤ opened text i → fault_at text i ≡ Many i
+    pub many_is : 256 ≤ opened text i → fault_at text i ≡ Err (Many i)
     many_is h = rw (s, o, lt-ltb 256 (suc (opened text i)) (omega arith))
 
     pub opener-passes : opened text i < 256 → fault_at text i ≡ no_fault
@@ -69,10 +70,10 @@ pub record NoFault (text : Bytes) (i : ℕ) : Type 0 where
 
 pub no_fault_lem : (text : Bytes) (i : ℕ) → refuses (fault_at text i) ≡ false → NoFault text i
 no_fault_lem text i e =
-    let s1 = not_no_size (before_first text i) (Before i) _ e (λ t. refl) in
-    let s2 = not_no_size (bad_byte text i) (Byte i) _ s1.1 (λ t. refl) in
-    let s3 = not_no_size (one_too_wide text i) (Wide i) _ s2.1 (λ t. refl) in
-    let s4 = not_no_size (one_too_many text i) (Many i) no_fault s3.1 (λ t. refl) in
+    let s1 = not_no_size (before_first text i) (Err (Before i)) _ e (λ t. refl) in
+    let s2 = not_no_size (bad_byte text i) (Err (Byte i)) _ s1.1 (λ t. refl) in
+    let s3 = not_no_size (one_too_wide text i) (Err (Wide i)) _ s2.1 (λ t. refl) in
+    let s4 = not_no_size (one_too_many text i) (Err (Many i)) no_fault s3.1 (λ t. refl) in
     record { not-before = s1.0; not_bad = s2.0; not_wide = s3.0; not-many = s4.0 }
 
 -- No fault before a byte.

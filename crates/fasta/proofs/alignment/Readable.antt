@@ -3,6 +3,7 @@ use mathlib.Core.Path.{◌≡◌, refl}
 use mathlib.Core.Bool.{Bool, false, not}
 use Prim.Native.Nat.{ℕ, ◌≤◌, ◌<◌}
 use native.Mathlib.Omega.{arith}
+use Rattle.std.proofs.Common.{Err}
 use lib.Dec.{ltb, eqb}
 use lib.ListN.{length}
 use borrow.Author.Tests.{ltb-true, ltb-false, eqb-true, eqb-false, not-false}
@@ -10,7 +11,7 @@ use Rattle.graph.specs.Below.{first}
 use Rattle.graph.proofs.Below.{first-before}
 use Rattle.rules.specs.Job.{Bytes}
 use Rattle.fasta.specs.Answers.{refuses, no_fault}
-use Rattle.fasta.specs.declared.conversion.Conversion.TheVariants.{Empty, Uneven}
+use Rattle.fasta.specs.declared.conversion.Fault.TheVariants.{Empty, Uneven}
 use Rattle.fasta.proofs.conversion.Answers.{not_no_size}
 use Rattle.fasta.specs.Sequences.{sequences, sequence}
 use Rattle.fasta.specs.Refusals.{fault_at, first_fault, first_empty, first_uneven, checked_text}
@@ -28,9 +29,9 @@ unfolding checked_text
 tested text e =
     let at = first_fault text in
     let s1 = not_no_size (ltb at (length text)) (fault_at text at) _ e (λ t. fault-there text (ltb-true at (length text) t)) in
-    let s2 = not_no_size (eqb (sequences text) 0) (Empty 0) _ s1.1 (λ t. refl) in
-    let s3 = not_no_size (ltb (first_empty text) (sequences text)) (Empty (first_empty text)) _ s2.1 (λ t. refl) in
-    let s4 = not_no_size (ltb (first_uneven text) (sequences text)) (Uneven (first_uneven text)) no_fault s3.1 (λ t. refl) in
+    let s2 = not_no_size (eqb (sequences text) 0) (Err (Empty 0)) _ s1.1 (λ t. refl) in
+    let s3 = not_no_size (ltb (first_empty text) (sequences text)) (Err (Empty (first_empty text))) _ s2.1 (λ t. refl) in
+    let s4 = not_no_size (ltb (first_uneven text) (sequences text)) (Err (Uneven (first_uneven text))) no_fault s3.1 (λ t. refl) in
     record { faultless = s1.0; begun = s2.0; filled = s3.0; alike = s4.0 }
 
 -- Where the first of n that passes is not below n, none does.

@@ -1,4 +1,5 @@
 -- What is left of the refusals behind each stage, in the numbers that the code has read: n rows and width m.
+use Rattle.std.specs.Prelude.{Err}
 use mathlib.Core.Path.{◌≡◌, sym, ◌∙◌}
 use mathlib.Core.Bool.{Bool, true, false, not}
 use Prim.Native.Nat.{ℕ, ◌+◌, ◌*◌, ◌≤◌}
@@ -7,10 +8,9 @@ use native.Mathlib.Omega.{arith}
 use lib.Dec.{ltb, eqb}
 use lib.ListN.{length}
 use borrow.Author.Tests.{le-ltb, eq-eqb, ne_eqb}
-use Rattle.rules.specs.Answers.{when◌refuse◌else◌, passed}
+use Rattle.rules.specs.Answers.{when◌refuse◌else◌, passed, Answer}
 use Rattle.rules.specs.Job.{Bytes, word, outside, bad_weight, bad_state, checked}
-use Rattle.rules.specs.declared.Answer.{Answer}
-use Rattle.rules.specs.declared.Answer.TheVariants.{Layout, Weight, State}
+use Rattle.rules.specs.declared.Refusal.TheVariants.{Layout, Weight, State}
 use Rattle.rules.proofs.Job.{inside}
 use Rattle.job.specs.Stages.{Sized, LaidOut}
 
@@ -29,17 +29,17 @@ told low high e is t = rw (← is) (sym e ∙ t)
 -- WEIGHT and STATE.
 abbrev contents : Bytes → ℕ → ℕ → Answer
 contents job n m =
-    when ltb (bad_weight job) m refuse Weight (bad_weight job) else
-    when ltb (bad_state job) (n * m) refuse State (bad_state job) else
+    when ltb (bad_weight job) m refuse Err (Weight (bad_weight job)) else
+    when ltb (bad_state job) (n * m) refuse Err (State (bad_state job)) else
     passed
 
 -- LAYOUT, and what is tried behind it.
 abbrev layout : Bytes → ℕ → ℕ → Answer
 layout job n m =
-    when not (eqb (word job 6) 12) refuse Layout 6 else
-    when not (eqb (word job 8) (12 + 2 * m)) refuse Layout 8 else
-    when not (eqb (word job 10) (12 + 2 * m + n * m)) refuse Layout 10 else
-    when not (eqb (length job) (12 + 2 * m + n * m)) refuse Layout 12 else
+    when not (eqb (word job 6) 12) refuse Err (Layout 6) else
+    when not (eqb (word job 8) (12 + 2 * m)) refuse Err (Layout 8) else
+    when not (eqb (word job 10) (12 + 2 * m + n * m)) refuse Err (Layout 10) else
+    when not (eqb (length job) (12 + 2 * m + n * m)) refuse Err (Layout 12) else
     contents job n m
 
 module _ {job : Bytes} {n m : ℕ} where

@@ -12,7 +12,7 @@ use Rattle.job.proofs.weights.Goals as goal
 
 pub loop-c-init : goal.loop-c-init
 unfolding table
-loop-c-init c = (omega arith, placed-none (replicate 64 0) 0)
+loop-c-init c = placed-none (replicate 64 0) 0
 
 pub overflow_mul-c : goal.overflow_mul-c
 overflow_mul-c c = omega (arith, (first-row c.args.job.now c.args.m c.requires.0 c.requires.1))
@@ -34,7 +34,7 @@ loop-c-preserved c =
     let l = c.loop-c in
     let s = c in
     let h : l.c < 64 = omega (arith, (first-row s.args.job.now s.args.m s.requires.0 s.requires.1)) in
-    (omega arith, table-front (replicate 64 0) l.w l.c c.word_at.result (weight_at s.args.job.now) h l.invariant.1 c.word_at.ensures.is)
+    table-front (replicate 64 0) l.w l.c c.word_at.result (weight_at s.args.job.now) h l.invariant c.word_at.ensures.is
 
 pub returns : goal.returns
 unfolding weights
@@ -42,4 +42,4 @@ returns c =
     let l = c.loop-c in
     let job = c.args.job.now in
     let e : l.c ≡ width job = omega arith in
-    l.invariant.1 ∙ placed-padded 64 (table l.c (weight_at job)) ∙ ap (λ (n : ℕ). padded 64 (table n (weight_at job))) e
+    l.invariant ∙ placed-padded 64 (table l.c (weight_at job)) ∙ ap (λ (n : ℕ). padded 64 (table n (weight_at job))) e

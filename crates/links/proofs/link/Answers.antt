@@ -5,8 +5,6 @@ use Rattle.links.proofs.link.Goals as goal
 
 pub returns : goal.returns
 returns c =
-    let m = c in
-    let s = m in
-    let a = s.args in
-    let (w, spanned) = s.spans.ensures in
-    found a.n a.epsilon a.area.now (omega arith) w spanned m.mark.ensures
+    let a = c.args in
+    let (w, spanned) = c.spans.ensures in
+    found a.n a.epsilon a.area.now (omega arith) w spanned c.mark.ensures

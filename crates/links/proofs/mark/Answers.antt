@@ -5,9 +5,8 @@ use Rattle.links.proofs.mark.Goals as goal
 
 pub loop-j-preserved : goal.loop-j-preserved
 loop-j-preserved c =
-    let m = c in
-    let w = m.loop-j.invariant in
-    part-passed w (omega arith) m.mark_line.ensures (λ a b t. rw (cell-kept w (omega arith) a b (omega arith) (omega arith)))
+    let w = c.loop-j.invariant in
+    part-passed w (omega arith) c.mark_line.ensures (λ a b t. rw (cell-kept w (omega arith) a b (omega arith) (omega arith)))
 
 pub returns : goal.returns
 returns c = all-passed c.loop-j.invariant (omega arith)

@@ -5,9 +5,8 @@ use Rattle.links.proofs.mark_line.Goals as goal
 
 pub loop-i-preserved : goal.loop-i-preserved
 loop-i-preserved c =
-    let l = c in
-    let was = cell-kept l.loop-i.invariant (omega arith) l.args.j l.loop-i.i (omega arith) (omega arith) in
-    cell-passed l.loop-i.invariant (omega arith) (omega arith) (rw was at c.mark_of.ensures)
+    let was = cell-kept c.loop-i.invariant (omega arith) c.args.j c.loop-i.i (omega arith) (omega arith) in
+    cell-passed c.loop-i.invariant (omega arith) (omega arith) (rw was at c.mark_of.ensures)
 
 pub returns : goal.returns
 returns c = all-passed c.loop-i.invariant (omega arith)

@@ -18,7 +18,6 @@ pub overflow_add-cost : goal.overflow_add-cost
 overflow_add-cost c =
     omega (arith, c.requires.0.at_most c.loop-c.c (omega arith), costed_small _ _ _ _ _ c.requires.0 _ _ c.loop-c.invariant)
 
--- What the first test added is at most the weight.
 pub overflow_add-cost-then-b-d : goal.overflow_add-cost-then-b-d
 overflow_add-cost-then-b-d c =
     let more : c.if-a-b.cost ≤ c.loop-c.cost + get_or c.args.weights.now c.loop-c.c 0 =
@@ -30,7 +29,7 @@ loop-c-preserved c =
     let l = c.loop-c in
     let a = c.args in
     let state = λ (i : ℕ). get_or a.states.now (64 * i + l.c) 0 in
-    let weight : ℕ = get_or a.weights.now l.c 0 in
+    let weight = c.from-weight.result in
     let first : c.if-a-b.cost ≡ l.cost + gap weight (state a.u) (state a.v) = elim c.if-a-b.branch [
       | then-a-b w ↦ gap_differ _ _ _ _ _ w.if-a-b.true w.cost-is
       | else-a-b w ↦ gap-agree _ _ _ _ _ w.if-a-b.false w.cost-is
@@ -42,10 +41,7 @@ loop-c-preserved c =
         | else-a-d-via-else-a-d v ↦ inr v.if-a-d.false
       ]) w.cost-is
     ] in
-    one_costed _ _ _ _ _ l.c _ _ (omega arith) l.invariant (omega (arith, first, second))
-
-pub overflow_cast-result : goal.overflow_cast-result
-overflow_cast-result c = omega (arith, costed_small _ _ _ _ _ c.requires.0 _ _ c.loop-c.invariant)
+    one_costed _ _ _ _ _ l.c _ _ (omega arith) l.invariant (rw (← c.from-weight.ensures) (omega (arith, first, second)))
 
 pub returns : goal.returns
 returns c = all_costed _ _ _ _ _ c.requires.0 c.loop-c.c _ c.requires.1 (omega arith) c.loop-c.invariant

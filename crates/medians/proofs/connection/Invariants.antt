@@ -1,10 +1,6 @@
 -- `medians::connection` meets its contract: after c characters the cost is that of the first c.
-use Prim.Native.Nat.{◌-◌}
 use Rattle.medians.proofs.Costed.{Costed}
 use Rattle.medians.proofs.connection.Given as goal
 
 abbrev pub invariant-loop-c : goal.invariant-loop-c
 invariant-loop-c l = Costed l.weights l.states l.u l.v l.w l.c l.cost
-
-abbrev pub decreases-loop-c : goal.decreases-loop-c
-decreases-loop-c l = 64 - l.c

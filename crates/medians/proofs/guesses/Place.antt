@@ -1,28 +1,21 @@
 -- Laws of Known.antt: where a row stands, which rows are known, and that a right guess is one of them.
 use mathlib.Core.Path.{◌≡◌, sym, ◌∙◌}
 use mathlib.Core.Logic.{◌↔◌, ◌⊎◌, inl, inr, ⊎_elim}
-use mathlib.Core.Bool.{Bool, true, false, and-eq-true_iff, false≢true}
+use mathlib.Core.Bool.{Bool, true, and-eq-true_iff, false≢true}
 use mathlib.Core.List.{List}
-use Prim.Native.Nat.{ℕ, ◌+◌, ◌*◌, ◌-◌, ◌≤◌, ◌<◌}
-use native.Mathlib.Nat.{mod-lt}
+use Prim.Native.Nat.{ℕ, ◌+◌, ◌-◌, ◌≤◌, ◌<◌}
 use native.Mathlib.Decide.{dec_lt}
 use native.Mathlib.Omega.{arith}
 use lib.Dec.{ltb}
-use lib.ListN.{get_or, take, drop}
+use lib.ListN.{get_or}
 use borrow.Author.Tests.{ltb-true, lt-ltb, le-ltb}
-use Rattle.graph.specs.Below.{sum, first}
+use Rattle.graph.specs.Below.{first}
 use Rattle.graph.proofs.Below.{same_tests, first_le, first-before, first-hits}
 use Rattle.rules.specs.Job.{Bytes}
 use Rattle.rules.specs.Types.{is_same_row}
 use Rattle.rules.proofs.Rows.{same_row}
 use Rattle.types.specs.State.{stored_at}
 use Rattle.medians.specs.Guesses.{row_of, known_at, slot_of, right_guess}
-use Rattle.medians.proofs.guesses.Mixed.{weight}
-
--- A guess has one of 4096 places.
-pub slot_few : (row : Bytes) → slot_of row < 4096
-unfolding slot_of
-slot_few row = mod-lt (sum 64 (λ c. get_or row c 0 * weight c)) (omega arith)
 
 -- Where a number passes, the first that does is one of them.
 first_below : (n : ℕ) (p : ℕ → Bool) (i : ℕ) → i < n → p i ≡ true → first n p < n
@@ -30,13 +23,6 @@ first_below n p i h t = elim (dec_lt (first n p) n) [
   | yes l ↦ l
   | no other ↦ absurd (false≢true (cc (first-before n p i (omega arith))))
 ]
-
--- A row as a part of the area from its start to its end.
-abbrev part : Bytes → ℕ → Bytes
-part area i = take (64 * i + 64 - 64 * i) (drop (64 * i) area)
-
-part-stored : (area : Bytes) (i : ℕ) → part area i ≡ stored_at area i
-part-stored area i = let e : 64 * i + 64 - 64 * i ≡ 64 = omega arith in rw e
 
 -- The first of n rows of an area that is this one.
 abbrev pub first_in : Bytes → ℕ → Bytes → ℕ
@@ -71,12 +57,6 @@ module _ (states : Bytes) (made : ℕ) (gathered : Bytes) (count : ℕ) where
     pub place_found : made ≤ first_in states made row → known_at states made gathered count row ≡ made + first_in gathered count row
     unfolding known_at
     place_found h = rw (le-ltb (first_in states made row) made h)
-
-    pub place-few : known_at states made gathered count row ≤ made + count
-    place-few = elim (dec_lt (first_in states made row) made) [
-      | yes l ↦ omega (arith, place-made l)
-      | no other ↦ omega (arith, place_found (omega arith), first-few gathered count row)
-    ]
 
     -- Both searches, one after the other: the row is among those made, or is looked for among those gathered.
     pub search_made : (i : ℕ) → i ≡ first_in states made row → i < made →
@@ -118,16 +98,3 @@ module _ (states : Bytes) (made : ℕ) (gathered : Bytes) (count : ℕ) where
         let guess = get_or guesses (slot_of row) 0 in
         let s = (and-eq-true_iff (ltb guess (made + count)) (is_same_row (row_of states made gathered guess) row)).0 t in
         row-known guess (ltb-true guess (made + count) s.0) ((same_row (row_of states made gathered guess) row).0 s.1)
-
-    -- How a guess is checked: with a row made, with a row gathered, or not at all.
-    module _ (guesses : List ℕ) {at : ℕ} (e : at ≡ slot_of row) where
-      pub guess_made : get_or guesses at 0 < made →
-          is_same_row (part states (get_or guesses at 0)) row ≡ right_guess states made gathered count guesses row
-      guess_made h = rw (← e, part-stored states (get_or guesses at 0), lt-ltb (get_or guesses at 0) (made + count) (omega arith), lt-ltb (get_or guesses at 0) made h)
-
-      pub guess_found : made ≤ get_or guesses at 0 → get_or guesses at 0 < made + count →
-          is_same_row (part gathered (get_or guesses at 0 - made)) row ≡ right_guess states made gathered count guesses row
-      guess_found h l = rw (← e, part-stored gathered (get_or guesses at 0 - made), lt-ltb (get_or guesses at 0) (made + count) l, le-ltb (get_or guesses at 0) made h)
-
-      pub guess_none : made + count ≤ get_or guesses at 0 → false ≡ right_guess states made gathered count guesses row
-      guess_none h = rw (← e, le-ltb (get_or guesses at 0) (made + count) h)

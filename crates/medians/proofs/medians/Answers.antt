@@ -5,4 +5,4 @@ use Rattle.medians.proofs.medians.Goals as goal
 
 pub returns : goal.returns
 returns c =
-    rw (c.median-first.ensures, c.median-second.ensures ∙ median-second _ _ _, c.median-third.ensures ∙ median_third _ _ _)
+    rw (c.median.ensures, c.median-2.ensures ∙ median-second _ _ _, c.median-3.ensures ∙ median_third _ _ _)

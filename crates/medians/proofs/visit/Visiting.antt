@@ -4,7 +4,7 @@ use mathlib.Core.Path.{◌≡◌, sym, ap, ◌∙◌}
 use mathlib.Core.Logic.{◌⊎◌, inl, inr}
 use mathlib.Core.Bool.{Bool, true}
 use mathlib.Core.List.{List, []}
-use Prim.Native.Nat.{ℕ, zero, suc, ◌+◌, ◌≤◌, ◌<◌}
+use Prim.Native.Nat.{ℕ, zero, suc, ◌<◌}
 use native.Mathlib.Omega.{arith}
 use lib.ListN.{get_or}
 use Rattle.rules.specs.Job.{Bytes}
@@ -16,19 +16,9 @@ use Rattle.types.specs.State.{stored_at}
 use Rattle.triplets.specs.declared.Triplet.{Triplet}
 use Rattle.medians.specs.declared.search.Search.{Search}
 use Rattle.medians.specs.Search.{Inside}
-use Rattle.medians.specs.Swept.{Gives, IsMedian, GivesRow, Swept}
+use Rattle.medians.specs.Swept.{Gives, GivesRow, Swept}
 use Rattle.medians.proofs.search.Sweeping.{Rows, swept-both, swept-more, swept_as, swept_at}
 use Rattle.medians.proofs.search.Considering.{wide}
-
--- The types of a triplet stay inside where as many rows are made and there is room.
-pub still_inside : {states : Bytes} {s s' : Search} {t : Triplet} → Inside states s t → s'.made ≡ s.made → s'.made + s'.count ≤ 128 → Inside states s' t
-still_inside inside e room = record {
-  u_made = rw e inside.u_made;
-  v_made = rw e inside.v_made;
-  w_made = rw e inside.w_made;
-  room = room;
-  lie = rw e inside.lie;
-}
 
 -- The median vectors of a triplet, and which of the rows the code has is which.
 abbrev pub medians_of : Bytes → Triplet → List Bytes
@@ -37,9 +27,6 @@ medians_of states t = medians (stored_at states t.u) (stored_at states t.v) (sto
 module _ (states : Bytes) (t : Triplet) {rows : List Bytes} (are : rows ≡ medians_of states t) where
   same_at : (k : ℕ) → row_at (medians_of states t) k ≡ get_or rows k []
   same_at k = ap (λ rs. row_at rs k) (sym are)
-
-  pub is-median : (k : ℕ) → k < 3 → IsMedian states t (get_or rows k [])
-  is-median k h = record { number = k; below_three = h; row_is = sym (same_at k) }
 
   module _ (ws : List ℕ) where
     -- What is asked for when median vector k is considered.

@@ -1,23 +1,10 @@
--- `memory::copy` meets its contract: so many bytes of s stand in their places.
-use mathlib.Core.Path.{refl, ap, ◌∙◌}
+-- `memory::copy` meets its contract.
+use Rattle.std.proofs.lemmas.Slice.{put_mid-paste}
+use Rattle.std.proofs.lemmas.Grind.{common_steps}
 use native.Mathlib.Omega.{arith}
-use lib.ListN.{length-set}
-use lib.Seq.{take_all}
 use Rattle.memory.specs.Placed.{placed}
-use Rattle.memory.proofs.Placed.{placed-none, taken_more}
 use Rattle.memory.proofs.copy.Goals as goal
 
-pub loop-i-init : goal.loop-i-init
-loop-i-init c = (omega arith, refl, placed-none _ _)
-
-pub loop-i-preserved : goal.loop-i-preserved
-loop-i-preserved c =
-    let l = c.loop-i in
-    let a = c.args in
-    (omega arith, simp length-set l.invariant.1, taken_more a.b.now a.s.now l.b a.at l.i (omega arith) (omega arith) l.invariant.2)
-
 pub returns : goal.returns
-returns c =
-    let l = c.loop-i in
-    let a = c.args in
-    l.invariant.2 ∙ ap (placed a.b.now a.at) (take_all l.i a.s.now (omega arith))
+unfolding placed
+returns c = grind (arith, common_steps, put_mid-paste)

@@ -14,7 +14,7 @@ use Rattle.graph.proofs.Below.{is_false, every_true}
 use Rattle.rules.specs.Job.{Bytes}
 use Rattle.rules.proofs.Job.{Within, within, inside}
 use Rattle.memory.specs.Numeral.{is_digit, value_of, is_decimal, numeral}
-use Rattle.memory.specs.declared.numerals.Numeral.TheVariants.{Number, Other}
+use Rattle.std.specs.Prelude.{Some, None}
 
 module _ (xs : Bytes) where
   pub value_none : 0 ≡ value_of xs 0
@@ -59,10 +59,10 @@ module _ (xs : Bytes) where
       )
 
   -- Such bytes are read as their number, and all others as none.
-  pub number_is : {value : ℕ} → value ≡ value_of xs (length xs) → Writes → Number value ≡ numeral xs
+  pub number_is : {value : ℕ} → value ≡ value_of xs (length xs) → Writes → Some value ≡ numeral xs
   unfolding numeral
   number_is e w = rw (e, test_true.1 w)
 
-  pub other-is : (Writes → ⊥) → Other ≡ numeral xs
+  pub other-is : (Writes → ⊥) → None ≡ numeral xs
   unfolding numeral
   other-is f = rw (is_false _ (λ e. f (test_true.0 e)))

@@ -1,4 +1,5 @@
 -- What a run leaves can be written: its numbers fit 16 bits, and the least result is long enough for its block.
+use Rattle.std.specs.Prelude.{Ok}
 use mathlib.Core.Path.{◌≡◌, refl, sym, ap, ◌∙◌}
 use mathlib.Core.Bool.{false}
 use mathlib.Core.List.{List}
@@ -20,11 +21,11 @@ use Rattle.rules.proofs.Job.{passed_is}
 use Rattle.rules.proofs.Block.{Fits16, sampled_count}
 use Rattle.types.specs.State.{nodes_in}
 use Rattle.purge.specs.Network.{network_in}
+use Rattle.purge.specs.declared.state.Held.{Held}
 use Rattle.result.specs.Records.{OriginFits, kind_at}
 use Rattle.result.specs.FrontWritten.{Writable}
-use Rattle.run.specs.declared.start.Ended.{Ended}
-use Rattle.run.specs.Ran.{Ran, run_answer}
-use Rattle.run.proofs.Once.{settles, ran-few}
+use Rattle.run.specs.Ran.{Ran}
+use Rattle.run.proofs.Once.{ran-ok, ran-few}
 use Rattle.readback.proofs.Result.{numbers_fit, few-rounds, block-short}
 use Rattle.network.proofs.draw.Verdicts.{ran-found}
 
@@ -37,29 +38,26 @@ origin-fits : (o : Origin) (index : ℕ) → Fits16 (record_of o index) → Orig
 origin-fits (Sampled rows first) index f = (omega (arith, f.0), omega (arith, f.1.0))
 origin-fits (Inferred round) index f = omega (arith, f.1.1.0)
 
-module _ {job states : Bytes} {area : List ℕ} {n cells : ℕ} {r : Ended}
-    (pass : number (checked job) ≡ 0) (ran : Ran job n cells states area r) (done : number r.answer ≡ 0) where
-  pub ran-done : number (run_answer job) ≡ 0
-  ran-done = rw ran.answered at done
-
+module _ {job states : Bytes} {area : List ℕ} {n cells : ℕ} {held : Held}
+    (pass : number (checked job) ≡ 0) (ran : Ran job n cells states area (Ok held)) where
   abbrev end : Run
-  end = (settles job ran-done).0
+  end = (ran-ok ran).end
 
   abbrev net : Network
   net = phase_two (weights job) end
 
   -- Memory tells the network of the rules.
-  pub told : network_in (width job) states area r.held ≡ net
-  told = ran.network ran-done end (settles job ran-done).1
+  pub told : network_in (width job) states area held ≡ net
+  told = (ran-ok ran).network_is
 
   drawn : verdict least job ≡ found net
-  drawn = ran-found least job least-enough pass ran-done end (settles job ran-done).1
+  drawn = ran-found least job least-enough pass (ran-ok ran).passed_is end (ran-ok ran).settled_in
 
   module _ where
     abbrev t : ℕ
-    t = r.held.state.types
+    t = held.state.types
 
-    types_are : net.types ≡ nodes_in (width job) t states r.held.kinds
+    types_are : net.types ≡ nodes_in (width job) t states held.kinds
     unfolding network_in
     types_are = sym (ap (λ n. n.types) told)
 
@@ -67,22 +65,22 @@ module _ {job states : Bytes} {area : List ℕ} {n cells : ℕ} {r : Ended}
     unfolding nodes_in
     type-count = ap length types_are ∙ length-table t _
 
-    origin-at : (k : ℕ) → k < t → (node_at net.types k).origin ≡ (kind_at r.held.kinds k).origin
+    origin-at : (k : ℕ) → k < t → (node_at net.types k).origin ≡ (kind_at held.kinds k).origin
     unfolding nodes_in
     origin-at k h = ap (λ n. n.origin) (ap (λ ts. node_at ts k) types_are ∙ get_or-table t _ k _ h)
 
-    rounds_are : net.rounds ≡ r.held.state.rounds
+    rounds_are : net.rounds ≡ held.state.rounds
     unfolding network_in
     rounds_are = sym (ap (λ n. n.rounds) told)
 
   -- Its block is short.
-  pub short : length (block (width job) (network_in (width job) states area r.held)) ≤ 57680
+  pub short : length (block (width job) (network_in (width job) states area held)) ≤ 57680
   short = rw told (block-short least job net drawn)
 
-  pub ready : (result : Bytes) → 8192 ≤ n → 16384 ≤ cells → 57680 ≤ length result → Writable (width job) states area r.held result
+  pub ready : (result : Bytes) → 8192 ≤ n → 16384 ≤ cells → 57680 ≤ length result → Writable (width job) states area held result
   ready result a b c = record {
     narrow = (passed_is job pass).width-within.at_most;
-    few = ran-few ran done;
+    few = ran-few ran;
     states_fit = omega (arith, ran.states_size);
     cells_fit = omega (arith, ran.area_size);
     origins_fit = λ k h. rw (← origin-at k h) (origin-fits (node_at net.types k).origin (k - sampled_count net) ((numbers_fit least job net drawn).record_fits k (rw type-count h)));

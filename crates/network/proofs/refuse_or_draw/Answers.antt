@@ -1,25 +1,25 @@
 -- `network::refuse_or_draw` meets its contract: the first refusal of checks 1 to 7, or what is drawn.
-use mathlib.Core.Path.{sym, ap₂, ◌∙◌}
-use Rattle.answers.specs.Told.{first_of}
+use mathlib.Core.Path.{sym, ap, ◌∙◌}
+use Rattle.rules.proofs.Answers.{handed_on}
+use Rattle.rules.specs.Answers.{number}
 use Rattle.readback.proofs.Lent.{enough}
-use Rattle.network.proofs.draw.Verdicts.{first-passed}
-use Rattle.network.proofs.Steps.{answered-first, answered-drawn}
+use Rattle.network.proofs.draw.Verdicts.{areas-refuse, areas-pass, check-refuses}
+use Rattle.network.proofs.Steps.{answered-refused, answered-drawn}
 use Rattle.network.proofs.refuse_or_draw.Goals as goal
 
-pub returns-then-told-ne0 : goal.returns-then-told-ne0
-returns-then-told-ne0 c =
-    let is = c.first_of-first.ensures ∙ ap₂ first_of c.check_areas-area.ensures c.check-checked.ensures in
-    rw (c.nothing.ensures, is) (answered-first _ _ _ _ _ (λ z. c.if-told-ne0.true (c.tell-told.ensures.number_is ∙ rw is z)))
+pub returns-in_err-check_areas : goal.returns-in_err-check_areas
+returns-in_err-check_areas c =
+    answered-refused _ _ _ _ _ (areas-refuse _ _ (sym c.check_areas.ensures ∙ c.in_err-check_areas.was)) (handed_on c.from_residual.ensures.1)
+
+pub returns-in_err-check : goal.returns-in_err-check
+returns-in_err-check c =
+    answered-refused _ _ _ _ _
+    (check-refuses _ _ (sym c.check_areas.ensures ∙ c.in_ok-check_areas.was) (sym c.check.ensures ∙ c.in_err-check.was)) (handed_on c.from_residual-in_err-check.ensures.1)
 
 pub draw-requires : goal.draw-requires
 draw-requires c =
-    let is = c.first_of-first.ensures ∙ ap₂ first_of c.check_areas-area.ensures c.check-checked.ensures in
-    let none = sym (rw is at c.tell-told.ensures.number_is) ∙ c.if-told-ne0.false in
-    let (areas, pass) = first-passed _ _ none in
-    let long = enough _ areas in
-    (pass, long.result-long, long.states-long, long.distances-long)
+    let long = enough _ (areas-pass _ c.args.job.now (sym c.check_areas.ensures ∙ c.in_ok-check_areas.was)) in
+    (ap number (sym c.check.ensures ∙ c.in_ok-check.was), long.result-long, long.states-long, long.distances-long)
 
 pub returns : goal.returns
-returns c =
-    let is = c.first_of-first.ensures ∙ ap₂ first_of c.check_areas-area.ensures c.check-checked.ensures in
-    answered-drawn _ _ _ _ _ (sym (rw is at c.tell-told.ensures.number_is) ∙ c.if-told-ne0.false) c.draw.ensures
+returns c = answered-drawn _ _ _ _ _ (areas-pass _ c.args.job.now (sym c.check_areas.ensures ∙ c.in_ok-check_areas.was)) c.draw.ensures

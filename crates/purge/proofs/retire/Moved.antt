@@ -1,49 +1,39 @@
 -- A row goes behind the others, and those behind it move down by a row.
-use mathlib.Core.Path.{◌≡◌, refl, sym, ap, ◌∙◌}
-use mathlib.Core.List.{◌++◌}
+use mathlib.Core.Path.{◌≡◌, refl, sym, ap, ap₂, ◌∙◌}
+use mathlib.Core.List.{List, ◌++◌, append_assoc}
 use Prim.Native.Nat.{ℕ, ◌+◌, ◌*◌, ◌-◌, ◌≤◌, ◌<◌}
 use native.Mathlib.Omega.{arith}
-use lib.ListN.{length, get_or, take, drop, set, length-append, length-drop}
-use lib.Seq.{length-take-le, get_or-drop}
+use lib.ListN.{length, take, drop, length-append, length-drop}
+use lib.Seq.{length-take-le, take-take, drop-drop}
+use Rattle.std.proofs.lemmas.List.{drop-take}
+use borrow.Rule.Slice.PartMut.{put_mid}
 use Rattle.rules.specs.Job.{Bytes}
 use Rattle.rules.proofs.Block.{Stands, stands_in, stands_front, stands_rear, stands_part}
 use Rattle.types.specs.State.{stored_at, rows_from}
 use Rattle.memory.specs.Placed.{placed}
-use Rattle.memory.proofs.Placed.{placed-none, stands_placed, get_or-placed-behind, placed_over, placed-twice, taken_more, length-placed}
+use Rattle.memory.proofs.Placed.{stands_placed, placed_over, placed-twice, length-placed}
 
--- The bytes from row i on, up to byte c, have moved down by a row.
-abbrev pub moved : Bytes → ℕ → ℕ → Bytes
-moved b i c = placed b (64 * i) (take (c - 64 * i) (drop (64 * (i + 1)) b))
+-- A part of what is lent, written through a slice of its own.
+pub part-placed : {A : Type 0} (b xs : List A) (at n : ℕ) → length xs ≡ n → put_mid at n b xs ≡ placed b at xs
+unfolding placed
+part-placed b xs at n e =
+    sym (append_assoc (take at b) xs _) ∙ ap (λ (rest : _). take at b ++ xs ++ rest) (drop-drop n at b ∙ ap (λ (k : ℕ). drop (at + k) b) (sym e))
 
-pub moved_none : (b : Bytes) (i : ℕ) → b ≡ moved b i (64 * i)
-moved_none b i = let e : 64 * i - 64 * i ≡ 0 = omega arith in rw e (placed-none b (64 * i))
-
-module _ (b : Bytes) (i c : ℕ) where
-  pub moved_more : (now : Bytes) → 64 * i ≤ c → c + 64 < length b → now ≡ moved b i c →
-      set now c (get_or now (c + 64) 0) ≡ moved b i (c + 1)
-  moved_more now l h e =
-      let s = drop (64 * (i + 1)) b in
-      let k = c - 64 * i in
-      let n : length s ≡ length b - 64 * (i + 1) = length-drop (64 * (i + 1)) b in
-      let w = length-take-le k s (omega arith) in
-      let at : c ≡ 64 * i + k = omega arith in
-      let one : c + 1 - 64 * i ≡ k + 1 = omega arith in
-      let from : 64 * (i + 1) + k ≡ c + 64 = omega arith in
-      let v : get_or now (c + 64) 0 ≡ get_or s k 0 =
-      ap (λ (x : Bytes). get_or x (c + 64) 0) e ∙ get_or-placed-behind b (take k s) (64 * i) (omega arith) (c + 64) 0 (omega arith)
-      ∙ ap (λ (p : ℕ). get_or b p 0) (sym from) ∙ sym (get_or-drop (64 * (i + 1)) b k 0) in
-      rw (v, one) (ap (λ (p : ℕ). set now p (get_or s k 0)) at ∙ taken_more b s now (64 * i) k (omega arith) (omega arith) e)
-
--- The row, put behind all that has moved.
-module _ (b : Bytes) (i : ℕ) where
-  pub row-behind : (now row : Bytes) (made : ℕ) → i < made → 64 * made ≤ length b → now ≡ moved b i (64 * made - 64) →
-      placed now (64 * made - 64) row ≡ placed b (64 * i) (rows_from b (i + 1) made ++ row)
-  row-behind now row made h l e =
-      let s = drop (64 * (i + 1)) b in
-      let n : length s ≡ length b - 64 * (i + 1) = length-drop (64 * (i + 1)) b in
-      let k : 64 * made - 64 - 64 * i ≡ 64 * (made - (i + 1)) = omega arith in
-      let w = length-take-le (64 * (made - (i + 1))) s (omega arith) in
-      rw (e, k) (placed-twice b (take (64 * (made - (i + 1))) s) (64 * i) (omega arith) (64 * made - 64) row (omega arith))
+-- The rows from number i on, turned by one: those behind row i, and then that row.
+pub turned : (b ys : Bytes) (i made : ℕ) → i < made → 64 * made ≤ length b →
+    let rest = take (64 * made - 64 * i) (drop (64 * i) b) in
+    ys ≡ drop 64 rest ++ take 64 rest → put_mid (64 * i) (64 * made - 64 * i) b ys ≡ placed b (64 * i) (rows_from b (i + 1) made ++ stored_at b i)
+turned b ys i made h l e =
+    let s = drop (64 * i) b in
+    let k = 64 * (made - (i + 1)) in
+    let n : 64 * made - 64 * i ≡ 64 + k = omega arith in
+    let at : 64 * (i + 1) ≡ 64 * i + 64 = omega arith in
+    let first : take 64 (take (64 + k) s) ≡ take 64 s = take-take 64 (64 + k) s (omega arith) in
+    let later : drop 64 (take (64 + k) s) ≡ take k (drop (64 * (i + 1)) b) = drop-take 64 k s ∙ ap (take k) (drop-drop 64 (64 * i) b ∙ ap (λ (p : ℕ). drop p b) (sym at)) in
+    let is : ys ≡ take k (drop (64 * (i + 1)) b) ++ take 64 s = rw n at e ∙ ap₂ ◌++◌ later first in
+    let size : length (take k (drop (64 * (i + 1)) b) ++ take 64 s) ≡ k + 64 =
+    omega (arith, length-append {A = ℕ}, length-take-le k (drop (64 * (i + 1)) b) (rw length-drop (omega arith)), length-take-le 64 s (rw length-drop (omega arith))) in
+    part-placed b ys (64 * i) (64 * made - 64 * i) (ap length is ∙ omega (arith, size)) ∙ ap (placed b (64 * i)) is
 
 -- Of what stands at the front, a row behind xs goes behind all that follows it.
 pub row-to-end : (b xs row ys : Bytes) (a made : ℕ) → length xs ≡ 64 * a → length row ≡ 64 → length ys ≡ 64 * (made - (a + 1)) →

@@ -108,9 +108,6 @@ module _ {kept : List ℕ} {count t made i a : ℕ} {b area : Bytes} (p : Partin
   pub few-stay : a ≤ i
   few-stay = omega (arith, both-rows, p.front)
 
-  pub all-parted : t ≤ i → area ≡ placed b 0 (parted kept count t made b)
-  all-parted h = let e : i ≡ t = omega (arith, p.read) in rw e at p.area_is
-
   module _ (h : i < t) where
     row-size : length (stored_at b i) ≡ 64
     row-size = length-stored_at b i (omega (arith, p.room, p.rows))

@@ -93,12 +93,3 @@ module _ (t : ℕ) (goes : ℕ → Bool) where
 
   pub none-goes : t ≤ stayers → some t goes ≡ false
   none-goes h = is_false _ (λ e. omega (arith, as_many, (count_pos t goes).1 ((some_true t goes).0 e)))
-
--- What is chosen of t is chosen of more.
-pub chosen_more : {kept : List ℕ} {count t n : ℕ} → Chosen kept count t → t ≤ n → Chosen kept count n
-chosen_more c h = record {
-  size = c.size;
-  few = omega (arith, c.few);
-  rising = c.rising;
-  within = λ a l. omega (arith, c.within a l);
-}

@@ -6,16 +6,17 @@ use Prim.Native.Nat.{ℕ, suc, ◌+◌, ◌*◌, ◌-◌, ◌≤◌, ◌<◌}
 use native.Mathlib.Numerals.{add-one}
 use native.Mathlib.Omega.{arith}
 use lib.ListN.{length, take, drop, take-append-drop, length-append, length-take, length-drop}
-use lib.Seq.{length-take-le, take-add, drop_at, drop-drop, get_or-take, get_or-drop}
+use lib.Seq.{length-take-le, drop_at, get_or-take, get_or-drop}
+use Rattle.std.specs.List.{copy_within}
 use Rattle.graph.specs.Below.{first, gather}
 use Rattle.graph.proofs.Below.{In, in_at, first-is, first_le, first-before, first-hits}
 use Rattle.rules.specs.Job.{Bytes, Row}
 use Rattle.rules.specs.Types.{row_at}
 use Rattle.rules.proofs.Block.{Stands, stands_in, stands_rear, stands_part}
 use Rattle.types.specs.State.{stored, stored_at, laid, rows_from}
-use Rattle.types.proofs.State.{length-stored_at, stored_at-is, stored_at-state, OfWidth, laid_both, laid_none, length-laid, laid-at}
+use Rattle.types.proofs.State.{length-stored_at, OfWidth, laid_both, laid_none, length-laid, laid-at}
 use Rattle.memory.specs.Placed.{placed}
-use Rattle.memory.proofs.Placed.{placed-none, stands_placed, take-placed, drop-placed, get_or-placed-before, placed_over, placed-twice, length-placed}
+use Rattle.memory.proofs.Placed.{stands_placed, take-placed, drop-placed, placed_over, placed-twice, length-placed}
 use Rattle.round.specs.Sorted.{before, put, sorted, row_place, with_row}
 use Rattle.round.proofs.ascending.Sorted.{length-sorted, sorted-wide}
 
@@ -43,7 +44,7 @@ abbrev inserted : Bytes → ℕ → Bytes → ℕ → Bytes
 inserted rows count row i = placed rows (64 * i) (row ++ rows_from rows i count)
 
 -- Bytes placed in front of others that were.
-placed-front : (b xs ys : Bytes) (at k : ℕ) → at + length xs ≡ k → k ≤ length b → placed (placed b k ys) at xs ≡ placed b at (xs ++ ys)
+pub placed-front : (b xs ys : Bytes) (at k : ℕ) → at + length xs ≡ k → k ≤ length b → placed (placed b k ys) at xs ≡ placed b at (xs ++ ys)
 unfolding placed
 placed-front b xs ys at k e h =
     let rest = drop (k + length ys) b in
@@ -52,29 +53,14 @@ placed-front b xs ys at k e h =
     let all : at + length (xs ++ ys) ≡ k + length ys = omega (arith, length-append xs ys) in
     rw (take-placed b ys k h at (omega arith), e, behind, all) (simp append_assoc)
 
--- What is placed behind a row leaves it.
-row_kept : (b ys : Bytes) (k j : ℕ) → 64 * j + 64 ≤ k → k + length ys ≤ length b → stored_at (placed b k ys) j ≡ stored_at b j
-row_kept b ys k j h room =
-    stored_at-is (placed b k ys) j (stored_at b j) (length-stored_at b j (omega arith)) (omega (arith, length-placed b ys k room)) (λ c l.
-    get_or-placed-before b ys k (omega arith) (64 * j + c) 0 (omega arith) ∙ sym (stored_at-state b j c l))
-
--- Moving up: none of them yet, and one more, the one before.
-module _ (rows : Bytes) (count : ℕ) where
-  pub moved_none : rows ≡ placed rows (64 * count + 64) (rows_from rows count count)
-  moved_none = let e : 64 * (count - count) ≡ 0 = omega arith in rw e (placed-none rows (64 * count + 64))
-
-  pub moved_more : length rows ≡ 8192 → count < 128 → (i j : ℕ) (row after : Bytes) → i ≡ j + 1 → i ≤ count → (now : Bytes) → now ≡ placed rows (64 * i + 64) (rows_from rows i count) →
-      row ≡ stored_at now j → after ≡ placed now (64 * j + 64) row → after ≡ placed rows (64 * j + 64) (rows_from rows j count)
-  moved_more size small i j row after e h now is read written =
-      let part = rows_from rows i count in
-      let long : length part ≡ 64 * (count - i) = length-take-le (64 * (count - i)) (drop (64 * i) rows) (rw length-drop (omega arith)) in
-      let own : row ≡ stored_at rows j = read ∙ rw is (row_kept rows part (64 * i + 64) j (omega arith) (omega arith)) in
-      let wide : length row ≡ 64 = ap length own ∙ length-stored_at rows j (omega arith) in
-      let next : 64 * j + 64 ≡ 64 * i = omega arith in
-      let more : 64 * (count - j) ≡ 64 + 64 * (count - i) = omega arith in
-      let parts : rows_from rows j count ≡ row ++ part =
-      rw (more, take-add 64 (64 * (count - i)) (drop (64 * j) rows), drop-drop 64 (64 * j) rows, next, own) in
-      written ∙ rw (is, parts, next) (placed-front rows row part (64 * i) (64 * i + 64) (omega arith) (omega arith))
+-- The rows from number i on, copied to a place.
+pub copied_to : (rows after : Bytes) (count i at : ℕ) → 64 * count ≤ length rows → after ≡ copy_within rows (64 * i) (64 * count) at →
+    after ≡ placed rows at (rows_from rows i count)
+unfolding placed
+copied_to rows after count i at room e =
+    let n : 64 * count - 64 * i ≡ 64 * (count - i) = omega arith in
+    let size = length-take-le (64 * (count - i)) (drop (64 * i) rows) (rw length-drop (omega arith)) in
+    rw size (rw n at e)
 
 -- The rows from its place on moved up, and the row put there.
 pub moved_with_row : (rows row moved after : Bytes) (count i : ℕ) → length rows ≡ 8192 → length row ≡ 64 → count < 128 → i ≡ row_place rows count row →

@@ -2,7 +2,7 @@
 -- gathers the candidates of a cost of at most lambda and epsilon, or finds more of them than there is room for.
 use mathlib.Core.Path.{◌≡◌, refl, sym, ap, ◌∙◌}
 use mathlib.Core.Logic.{◌≢◌, ⊎_elim}
-use mathlib.Core.Bool.{Bool, true, false, cond, false≢true}
+use mathlib.Core.Bool.{Bool, true, false, cond}
 use mathlib.Core.List.{List, []}
 use Prim.Native.Nat.{ℕ, ◌+◌, ◌*◌, ◌≤◌, ◌<◌}
 use native.Mathlib.Decide.{dec_lt}
@@ -98,10 +98,6 @@ module _ {size size' : Size} {made made' : ℕ} (s : size ≡ size') (m : made �
   pub remembered_as : {states : Bytes} {mismatches : List ℕ} → Remembered states mismatches size.width made → Remembered states mismatches size'.width made'
   remembered_as c = rw (← s, ← m) c
 
-  pub fresh_as : {ws : List ℕ} {states : Bytes} {area : List ℕ} {e : ℕ} {r : Added} → Fresh ws states area size.types made e r →
-      Fresh ws states area size'.types made' e r
-  fresh_as c = rw (← s, ← m) c
-
 -- It leaves the memory for rows as it was.
 pub lambda_rows : {asked given : Bytes → ℕ → Type 0} {rows rows' : Bytes} {s s' : Search} → Swept asked given rows s rows' s' → s.gathering ≡ false →
     s.count ≡ 0 → rows' ≡ rows
@@ -118,12 +114,12 @@ module _ {ws : List ℕ} {states : Bytes} {area : List ℕ} {v : Survey} (sought
   pub fresh-none : (e : ℕ) → Weighed ws → n ≤ made → made ≤ 128 → 64 * made ≤ length states → v.search.below ≡ 128001 → {rows : Bytes} {s : Search} →
       rows ≡ replicate 8192 0 → s ≡ for_all made 0 → Fresh ws states area n made e (added_of rows s)
   fresh-none e weighed few room lie high r is = rw (r, is) (record {
-    size = simp length-replicate;
-    room = omega arith;
-    all = λ faithful _.
-        none-added _ (λ x cost k. omega (arith, sought.least faithful x cost k, candidate-small weighed few lie k)) refl refl;
-    too_many = λ _ f. absurd (false≢true f);
-    none_then = λ f. (refl, refl);
+    comes_to = record {
+      size = simp length-replicate;
+      room = omega arith;
+      all = λ faithful.
+          none-added _ (λ x cost k. omega (arith, sought.least faithful x cost k, candidate-small weighed few lie k)) refl refl;
+    };
   })
 
   -- The second sweep.
@@ -185,24 +181,18 @@ module _ {ws : List ℕ} {states : Bytes} {area : List ℕ} {v : Survey} (sought
           }
 
     -- There is no room.
-    pub fresh-full : made ≤ 128 → all.full ≡ true → Fresh ws states area n made e none_fits
-    fresh-full room full = record {
-      size = simp length-replicate;
-      room = omega arith;
-      all = λ _ f. absurd (false≢true (sym f));
-      too_many = λ faithful _. crowded faithful full;
-      none_then = λ _. (refl, refl);
-    }
+    pub fresh-full : all.full ≡ true → Fresh ws states area n made e none_fits
+    fresh-full full = record { comes_to = λ faithful. crowded faithful full }
 
     -- There is room for all.
     pub fresh-all : all.full ≡ false → {rows : Bytes} → rows ≡ placed found 0 (laid (sorted all.count (stored_at found))) →
         Fresh ws states area n made e (with_rows rows all.count)
     fresh-all open_is {rows} sorts = record {
-      size = ap length sorts ∙ length-placed found _ 0 (omega (arith, long, second.room, size)) ∙ size;
-      room = omega (arith, second.room, second.made_stays);
-      all = λ faithful _. all-gathered faithful _ open_is refl rows_are;
-      too_many = λ _ f. absurd (false≢true f);
-      none_then = λ f. absurd (false≢true f);
+      comes_to = record {
+        size = ap length sorts ∙ length-placed found _ 0 (omega (arith, long, second.room, size)) ∙ size;
+        room = omega (arith, second.room, second.made_stays);
+        all = λ faithful. all-gathered faithful _ open_is refl rows_are;
+      };
     }
       where
         size : length found ≡ 8192
@@ -223,5 +213,5 @@ module _ {ws : List ℕ} {states : Bytes} {area : List ℕ} {v : Survey} (sought
     fresh_added room {rows} sorts = go all.full refl
       where
         go : (t : Bool) → all.full ≡ t → Fresh ws states area n made e (cond t none_fits (with_rows rows all.count))
-        go true full = fresh-full room full
+        go true full = fresh-full full
         go false open_is = fresh-all open_is sorts

@@ -1,4 +1,5 @@
 -- How a run begins: the sampled types of a job that passed lie in memory, with their distances; or there are too many of them.
+use Rattle.std.specs.Prelude.{Result, Ok, Err}
 use mathlib.Core.Path.{◌≡◌, refl, sym, ap, ◌∙◌}
 use mathlib.Core.Bool.{Bool, true, false, false≢true}
 use mathlib.Core.List.{List}
@@ -6,24 +7,24 @@ use Prim.Native.Nat.{ℕ, ◌+◌, ◌-◌, ◌≤◌}
 use native.Mathlib.Omega.{arith}
 use native.Mathlib.Decide.{dec_lt}
 use lib.ListN.{length, replicate, length-map, length-replicate}
-use Rattle.graph.proofs.Below.{length-table}
-use Rattle.rules.specs.Answers.{number, when◌refuse◌else◌, passed}
+use Rattle.rules.specs.Answers.{number}
 use Rattle.rules.specs.Job.{Bytes, width, epsilon, weights, job_rows, checked}
 use Rattle.rules.specs.Types.{Node, rows_of, sampled, has_too_many, row129}
 use Rattle.rules.specs.Run.{start}
 use Rattle.rules.specs.Call.{padded}
-use Rattle.rules.specs.declared.Answer.{Answer}
-use Rattle.rules.specs.declared.Answer.TheVariants.{Types}
+use Rattle.rules.specs.declared.Refusal.{Refusal}
+use Rattle.rules.specs.declared.Refusal.TheVariants.{Types}
 use Rattle.rules.proofs.Job.{Passed, passed_is, row-widths, length-weights, weight-within}
 use Rattle.rules.proofs.Types.{few-sampled}
 use Rattle.rules.proofs.Sound.{rows-sampled}
+use Rattle.rules.proofs.Answers.{ok-same, ok-not-err}
 use Rattle.memory.specs.Placed.{placed}
 use Rattle.memory.proofs.Placed.{placed-padded, length-placed}
-use Rattle.types.specs.State.{laid, kinds_of, nodes_in}
+use Rattle.types.specs.State.{laid, kinds_of}
 use Rattle.types.proofs.State.{OfWidth, length-laid, length-stored, stored-state}
 use Rattle.types.specs.Collapse.{entered, Collapsed}
 use Rattle.types.specs.declared.sample.Sample.{Sample}
-use Rattle.types.proofs.sample.Collapsed.{entered_all}
+use Rattle.types.proofs.sample.Collapsed.{entered_all, collapsed-few}
 use Rattle.distances.specs.Area.{Weighed, CellsWritten, New, stored_apart}
 use Rattle.distances.proofs.Measured.{behind_zero}
 use Rattle.purge.specs.State.{epsilon_of}
@@ -31,15 +32,12 @@ use Rattle.purge.specs.declared.state.Phase.TheVariants.{One}
 use Rattle.purge.specs.Holds.{Holds}
 use Rattle.purge.proofs.First.{holds-first}
 use Rattle.purge.proofs.Once.{current-few}
-use Rattle.run.specs.Begun.{refused_with, Begun}
-use Rattle.run.specs.declared.start.Ended.{Ended}
+use Rattle.purge.specs.declared.state.Held.{Held}
+use Rattle.run.specs.Begun.{First, Begun}
 
 -- What the run of a sample begins with.
-abbrev pub begun : Sample → ℕ → Ended
-begun sample e = record {
-  answer = passed;
-  held = record { state = record { types = sample.types; made = sample.types; rounds = 0; phase = One e }; kinds = sample.kinds };
-}
+abbrev pub begun : Sample → ℕ → Held
+begun sample e = record { state = record { types = sample.types; made = sample.types; rounds = 0; phase = One e }; kinds = sample.kinds }
 
 module _ (job : Bytes) (ok : number (checked job) ≡ 0) where
   job-passed : Passed job
@@ -60,8 +58,11 @@ module _ (job : Bytes) (ok : number (checked job) ≡ 0) where
       }
 
   -- The types are not too many, and were collapsed into zeros.
-  module _ (few : has_too_many (job_rows job) ≡ false) {lent : ℕ} (room : 8192 ≤ lent) {states : Bytes} {sample : Sample}
-      (c : Collapsed job (replicate lent 0) states sample) where
+  module _ {lent : ℕ} (room : 8192 ≤ lent) {states : Bytes} {sample : Sample} {r : Result Sample Refusal}
+      (c : Collapsed job (replicate lent 0) states r) (is : r ≡ Ok sample) where
+    few : has_too_many (job_rows job) ≡ false
+    few = (collapsed-few c is).0
+
     abbrev ts : List Node
     ts = sampled (job_rows job)
 
@@ -75,14 +76,13 @@ module _ (job : Bytes) (ok : number (checked job) ≡ 0) where
     narrow = job-passed.width-within.at_most
 
     types_are : sample.types ≡ length ts
-    unfolding nodes_in
-    types_are = sym (length-table sample.types _) ∙ ap length c.read_back ∙ ap (λ rs. length (sampled rs)) (entered_all (job_rows job) few)
+    types_are = ap (λ (t : Sample). t.types) (collapsed-few c is).1
 
     lie : states ≡ padded lent (laid (rows_of ts))
     lie = c.states_left ∙ ap (λ rs. placed (replicate lent 0) 0 (laid (rows_of (sampled rs)))) (entered_all (job_rows job) few) ∙ placed-padded lent _
 
     kinds_are : sample.kinds ≡ kinds_of ts
-    kinds_are = c.kinds_left ∙ ap (λ rs. kinds_of (sampled rs)) (entered_all (job_rows job) few)
+    kinds_are = ap (λ (t : Sample). t.kinds) (collapsed-few c is).1
 
     pub sample_few : sample.types ≤ 128
     sample_few = omega (arith, types_are, few_types)
@@ -99,52 +99,46 @@ module _ (job : Bytes) (ok : number (checked job) ≡ 0) where
       measured : CellsWritten (New 0 sample.types) (stored_apart (padded 64 (weights job)) states) (replicate cells 0) area
       measured = rw (weigh, zeros) at filled
 
-      held_first : Holds (width job) (weights job) (start (job_rows job)) states area (begun sample (epsilon job)).held
+      held_first : Holds (width job) (weights job) (start (job_rows job)) states area (begun sample (epsilon job))
       held_first = rw (types_are, kinds_are) (holds-first (width job) (weights job) ts few_types narrow wide (length-weights job) states
           (rw states-lent lie) cells area (One (epsilon job)) (rw types_are at measured))
 
-      pub begun_first : Begun job lent cells states area (begun sample (epsilon job))
+      pub begun_first : Begun job lent cells states area (Ok (begun sample (epsilon job)))
       begun_first = record {
         states_size = states-lent;
         area_size = measured.size ∙ length-replicate cells 0;
-        answered = rw few refl;
         refuses = λ many. absurd (false≢true (sym few ∙ many));
-        begins = λ _. record { phase_is = refl; few = sample_few; holds = held_first; measured = measured };
+        begins = λ _. (begun sample (epsilon job), refl, record { phase_is = refl; few = sample_few; holds = held_first; measured = measured });
       }
 
 -- There are too many types, and memory is zero.
 pub begun-none : (job : Bytes) {lent cells : ℕ} {states : Bytes} {area : List ℕ} → has_too_many (job_rows job) ≡ true → states ≡ replicate lent 0 →
-    area ≡ replicate cells 0 → Begun job lent cells states area (refused_with (Types (row129 (job_rows job))))
+    area ≡ replicate cells 0 → Begun job lent cells states area (Err (Types (row129 (job_rows job))))
 begun-none job {lent} {cells} many zeros zeros' = record {
   states_size = ap length zeros ∙ length-replicate lent 0;
   area_size = ap length zeros' ∙ length-replicate cells 0;
-  answered = rw many refl;
   refuses = λ _. (refl, record { states_are = zeros; area_is = zeros' });
   begins = λ few. absurd (false≢true (sym few ∙ many));
 }
 
--- TYPES is given only if there are too many types. Where an answer that could be TYPES is, by its place among the answers, any other,
--- they are not too many.
-module _ (job : Bytes) {a : Answer} (answered : a ≡ (when has_too_many (job_rows job) refuse Types (row129 (job_rows job)) else passed)) where
-  pub many-told : {place : ℕ} → a ≡ Types place → has_too_many (job_rows job) ≡ true
-  many-told told = go (has_too_many (job_rows job)) (sym answered ∙ told)
+-- Where a run begins there are not too many types, and they can be purged: there are few of them, and epsilon fits 16 bits.
+module _ {job states : Bytes} {lent cells : ℕ} {area : List ℕ} {held : Held} (b : Begun job lent cells states area (Ok held)) where
+  pub begun-few : (has_too_many (job_rows job) ≡ false) × First job cells states area held
+  begun-few = go (has_too_many (job_rows job)) refl
     where
-      go : (t : Bool) {place : ℕ} → (when t refuse Types (row129 (job_rows job)) else passed) ≡ Types place → t ≡ true
-      go true e = refl
-      go false e = absurd (omega (arith, ap number e))
+      go : (t : Bool) → has_too_many (job_rows job) ≡ t → (has_too_many (job_rows job) ≡ false) × First job cells states area held
+      go true many = absurd (ok-not-err (b.refuses many).0)
+      go false few =
+          let (other, is, first) = b.begins few in
+          (few, rw (sym (ok-same is)) at first)
 
-  pub few-told : ((place : ℕ) → a ≡ Types place → ⊥) → has_too_many (job_rows job) ≡ false
-  few-told other = go (has_too_many (job_rows job)) (rw answered at other)
-    where
-      go : (t : Bool) → ((place : ℕ) → (when t refuse Types (row129 (job_rows job)) else passed) ≡ Types place → ⊥) → t ≡ false
-      go true none = absurd (none _ refl)
-      go false none = refl
+  pub begun-small : epsilon job ≤ 65535 → (held.state.types ≤ held.state.made) × (held.state.made ≤ 128) × (epsilon_of held.state.phase ≤ 65535)
+  begun-small fits = let f = begun-few.1 in (current-few f.holds, f.few, rw f.phase_is fits)
 
--- However a run begins, its types can be purged: there are few of them, and epsilon fits 16 bits.
-pub begun-small : {job states : Bytes} {lent cells : ℕ} {area : List ℕ} {r : Ended} → Begun job lent cells states area r → epsilon job ≤ 65535 →
-    (r.held.state.types ≤ r.held.state.made) × (r.held.state.made ≤ 128) × (epsilon_of r.held.state.phase ≤ 65535)
-begun-small {job} {r} b fits = go (has_too_many (job_rows job)) refl
+-- Where one does not, there are too many types.
+pub begun-many : {job states : Bytes} {lent cells : ℕ} {area : List ℕ} {e : Refusal} → Begun job lent cells states area (Err e) → has_too_many (job_rows job) ≡ true
+begun-many {job} b = go (has_too_many (job_rows job)) refl
   where
-    go : (t : Bool) → has_too_many (job_rows job) ≡ t → (r.held.state.types ≤ r.held.state.made) × (r.held.state.made ≤ 128) × (epsilon_of r.held.state.phase ≤ 65535)
-    go true many = rw (b.refuses many).0 (omega arith, omega arith, omega arith)
-    go false few = let f = b.begins few in (current-few f.holds, f.few, rw f.phase_is fits)
+    go : (t : Bool) → has_too_many (job_rows job) ≡ t → has_too_many (job_rows job) ≡ true
+    go true many = many
+    go false few = absurd (ok-not-err (sym (b.begins few).1))

@@ -7,8 +7,7 @@ use Rattle.rules.specs.Job.{Bytes}
 use Rattle.fasta.specs.Answers.{conversion_number, conversion_place, refuses}
 use Rattle.fasta.specs.Refusals.{checked_text}
 use Rattle.fasta.proofs.Ready.{Ready}
-use Rattle.text.specs.Printed.{printed_used, RefusalLeft}
-use Rattle.text.specs.declared.Printed.{Printed}
+use Rattle.text.specs.Printed.{printed_used, RefusalLeft, Printed}
 use Rattle.service.specs.Served.{TextOnly}
 use Rattle.service.proofs.Text.{shown_as}
 use Rattle.service.specs.Printed.{fasta_printed, FastaText}

@@ -5,9 +5,7 @@ use Rattle.spans.proofs.Turns.{mirror_passed}
 use Rattle.spans.proofs.mirror.Goals as goal
 
 pub loop-j-preserved : goal.loop-j-preserved
-loop-j-preserved c =
-    let m = c in
-    mirror_passed m.loop-j.invariant (omega arith) (omega arith) m.mirror_line.ensures
+loop-j-preserved c = mirror_passed c.loop-j.invariant (omega arith) (omega arith) c.mirror_line.ensures
 
 pub returns : goal.returns
 returns c = all-passed c.loop-j.invariant (omega arith)

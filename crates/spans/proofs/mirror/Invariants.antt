@@ -1,5 +1,4 @@
 -- `spans::mirror` meets its contract: the mirror cells are passed line by line.
-use Prim.Native.Nat.{◌-◌}
 use Rattle.distances.specs.Area.{CellsWritten}
 use Rattle.distances.proofs.Area.{Passed, by_line}
 use Rattle.spans.specs.Tree.{Mirror, opposite}
@@ -7,6 +6,3 @@ use Rattle.spans.proofs.mirror.Given as goal
 
 abbrev pub invariant-loop-j : goal.invariant-loop-j
 invariant-loop-j l = CellsWritten (Passed by_line (Mirror l.n) l.j) (opposite l.initial.area) l.initial.area l.area
-
-abbrev pub decreases-loop-j : goal.decreases-loop-j
-decreases-loop-j l = l.n - l.j

@@ -5,9 +5,8 @@ use Rattle.spans.proofs.mirror_part.Goals as goal
 
 pub loop-i-preserved : goal.loop-i-preserved
 loop-i-preserved c =
-    let l = c in
-    let w = l.loop-i.invariant.1 in
-    (omega arith, cell-passed w (omega arith) (omega arith) (cell-kept w (omega arith) l.loop-i.i l.args.j (omega arith) (omega arith)))
+    let w = c.loop-i.invariant in
+    cell-passed w (omega arith) (omega arith) (cell-kept w (omega arith) c.loop-i.i c.args.j (omega arith) (omega arith))
 
 pub returns : goal.returns
-returns c = all-passed c.loop-i.invariant.1 (omega arith)
+returns c = all-passed c.loop-i.invariant (omega arith)

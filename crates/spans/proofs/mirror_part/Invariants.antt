@@ -1,5 +1,4 @@
 -- `spans::mirror_part` meets its contract: the cells are passed column by column. What stands opposite is in no line of theirs.
-use Prim.Native.Nat.{◌-◌, ◌≤◌}
 use Rattle.distances.specs.Area.{CellsWritten}
 use Rattle.distances.proofs.Area.{Passed, by_column}
 use Rattle.spans.specs.Tree.{opposite}
@@ -7,7 +6,4 @@ use Rattle.spans.specs.Growth.{LinePart}
 use Rattle.spans.proofs.mirror_part.Given as goal
 
 abbrev pub invariant-loop-i : goal.invariant-loop-i
-invariant-loop-i l = (l.from ≤ l.i) × CellsWritten (Passed by_column (LinePart l.j l.from l.to) l.i) (opposite l.initial.area) l.initial.area l.area
-
-abbrev pub decreases-loop-i : goal.decreases-loop-i
-decreases-loop-i l = l.to - l.i
+invariant-loop-i l = CellsWritten (Passed by_column (LinePart l.j l.from l.to) l.i) (opposite l.initial.area) l.initial.area l.area

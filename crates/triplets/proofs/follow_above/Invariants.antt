@@ -5,6 +5,3 @@ use Rattle.triplets.proofs.follow_above.Given as goal
 
 abbrev pub invariant-loop-i : goal.invariant-loop-i
 invariant-loop-i l = (l.c + 1 ≤ l.i) × Filling l.area l.n l.c l.i l.follower l.initial.next l.next
-
-abbrev pub decreases-loop-i : goal.decreases-loop-i
-decreases-loop-i l = l.i

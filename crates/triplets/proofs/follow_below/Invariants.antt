@@ -1,10 +1,6 @@
 -- `triplets::follow_below` meets its contract: the line is filled from place i on.
-use Prim.Native.Nat.{◌≤◌}
 use Rattle.triplets.proofs.Filling.{Filling}
 use Rattle.triplets.proofs.follow_below.Given as goal
 
 abbrev pub invariant-loop-i : goal.invariant-loop-i
-invariant-loop-i l = (l.i ≤ l.c) × Filling l.area l.n l.c l.i l.follower l.initial.next l.next
-
-abbrev pub decreases-loop-i : goal.decreases-loop-i
-decreases-loop-i l = l.i
+invariant-loop-i l = Filling l.area l.n l.c l.i l.follower l.fn.next l.next

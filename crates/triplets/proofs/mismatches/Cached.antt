@@ -1,13 +1,12 @@
 -- Laws of Cached and PairTable: nothing is known at first, mismatches that are kept are right, and more are kept.
 use mathlib.Core.Path.{◌≡◌, refl, ◌∙◌}
-use mathlib.Core.Logic.{◌≢◌, inl, inr, ⊎_elim}
+use mathlib.Core.Logic.{inl, inr}
 use mathlib.Core.Bool.{false}
-use mathlib.Core.List.{List, [], ◌∷◌}
+use mathlib.Core.List.{List}
 use Prim.Native.Nat.{ℕ, zero, suc, ◌+◌, ◌*◌, ◌<◌}
 use native.Mathlib.Decide.{ℕ_discrete}
-use native.Mathlib.Nat.{not-suc-le-zero}
 use native.Mathlib.Omega.{arith}
-use lib.ListN.{length, get_or, set, replicate, length-set}
+use lib.ListN.{get_or, set, replicate, length-set}
 use lib.Seq.{get_or-set_same, get_or-set_other}
 use borrow.Author.Tests.{eq-eqb}
 use Rattle.rules.specs.Job.{Bytes}
@@ -24,12 +23,6 @@ all_none (suc k) (suc n) = all_none k n
 pub none-cached : (states : Bytes) (m made k : ℕ) → Cached states m made (replicate k unknown)
 none-cached states m made k = record { each = λ i j hi hj. inl (all_none k (128 * i + j)) }
 
--- An element inside is read the same whatever stands for one outside.
-inside : (xs : List ℕ) (i d e : ℕ) → i < length xs → get_or xs i d ≡ get_or xs i e
-inside [] i d e h = absurd (not-suc-le-zero h)
-inside (x ∷ xs) zero d e h = refl
-inside (x ∷ xs) (suc i) d e h = inside xs i d e (omega arith)
-
 -- The order of two rows does not matter.
 pub apart_sym : (states : Bytes) (m i j : ℕ) → mismatches_in states m i j ≡ mismatches_in states m j i
 apart_sym states m i j = bits_ext (differ states i j) (differ states j i) (λ c. rw (eqb_sym (get_or states (64 * i + c) 0) (get_or states (64 * j + c) 0))) m 0
@@ -40,11 +33,6 @@ apart_self states m i =
     bits_ext (differ states i i) (λ c. false) (λ c. rw (eq-eqb (get_or states (64 * i + c) 0) (get_or states (64 * i + c) 0) refl)) m 0 ∙ bits_none m 0
 
 module _ (states : Bytes) (m made : ℕ) (mismatches : List ℕ) (i j : ℕ) (hi : i < made) (hj : j < made) where
-  pub kept-right : PairTable states m made mismatches → get_or mismatches (128 * i + j) 0 ≢ unknown → get_or mismatches (128 * i + j) 0 ≡ mismatches_in states m i j
-  kept-right room known =
-      let same = inside mismatches (128 * i + j) 0 unknown (omega (arith, room.few, room.space)) in
-      ⊎_elim (λ e. absurd (known (same ∙ e))) (λ e. same ∙ e) (room.cached.each i j hi hj)
-
   -- The mismatches of two rows are kept.
   room-one : (r : ℕ) → r ≡ mismatches_in states m i j → PairTable states m made mismatches → PairTable states m made (set mismatches (128 * i + j) r)
   room-one r e room = record {

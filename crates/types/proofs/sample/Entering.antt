@@ -1,4 +1,5 @@
 -- Rows enter one at a time: what memory holds after k rows, and what one row more makes of it.
+use Rattle.std.specs.Prelude.{Result, Ok, Err}
 use mathlib.Core.Path.{◌≡◌, sym, ap, ◌∙◌}
 use mathlib.Core.Bool.{Bool, false≢true}
 use mathlib.Core.List.{List, []}
@@ -8,19 +9,20 @@ use lib.ListN.{length, get_or, take, set, replicate, length-append, length-map, 
 use lib.Seq.{get_or-take}
 use Rattle.graph.specs.Below.{first}
 use Rattle.graph.proofs.Below.{first-before, first-hits}
-use Rattle.rules.specs.Answers.{number, when◌refuse◌else◌, passed}
+use Rattle.rules.specs.Answers.{number, when◌refuse◌else◌}
 use Rattle.rules.specs.Job.{Bytes, rows, width, checked, job_row, job_rows}
 use Rattle.rules.specs.Types.{Node, row_count, row_at, node_at, rows_of, is_same_row, sampled, has_too_many, row129}
 use Rattle.rules.specs.declared.Kind.{Kind}
-use Rattle.rules.specs.declared.Answer.{Answer}
-use Rattle.rules.specs.declared.Answer.TheVariants.{Types}
+use Rattle.rules.specs.declared.Refusal.{Refusal}
+use Rattle.rules.specs.declared.Refusal.TheVariants.{Types}
 use Rattle.rules.proofs.Job.{passed_is, length-rows, row-at, row-widths}
 use Rattle.rules.proofs.Rows.{same_row}
 use Rattle.rules.proofs.Sound.{rows-sampled}
 use Rattle.memory.specs.Placed.{placed}
 use Rattle.memory.proofs.Placed.{length-placed}
 use Rattle.types.specs.State.{stored, stored_at, laid, blank, kinds_of, single, more, one_more}
-use Rattle.types.specs.Collapse.{entered, Collapsed}
+use Rattle.types.specs.Collapse.{entered, sample_of, Collapsed}
+use Rattle.types.specs.declared.sample.Sample.{Sample}
 use Rattle.types.proofs.State.{OfWidth, length-stored, length-laid, laid_none, laid_more, laid-first, kinds-none, kinds-at, kinds-more, kinds-set, row_of, rows_more, rows-set, read_back}
 use Rattle.types.proofs.sample.Prefix.{known, New, known-none, known-all, known-count, new_row, known-row, new_129th, few_types}
 
@@ -85,17 +87,17 @@ module _ {job before area : Bytes} {kinds : List Kind} {types k : ℕ} (held : H
       (omega (arith, known-count (job_rows job) k i, (passed_is job held.ok).rows-within.at_most))
 
   -- The end: the types held are those of the rows entered.
-  ended : (a : Answer) → a ≡ (when has_too_many (job_rows job) refuse Types (row129 (job_rows job)) else passed) →
-      entered (job_rows job) ≡ take k (job_rows job) → Collapsed job before area (record { answer = a; types = types; kinds = kinds })
-  ended a is e = record {
+  ended : {r : Result Sample Refusal} → entered (job_rows job) ≡ take k (job_rows job) →
+      r ≡ (when has_too_many (job_rows job) refuse Err (Types (row129 (job_rows job))) else Ok (sample_of (sampled (job_rows job)))) →
+      Collapsed job before area r
+  ended e is = record {
     answered = is;
-    read_back = rw (e, held.types_are, held.kinds_are, held.states_are)
+    read_back = rw (e, held.states_are)
         (read_back (width job) ts (narrow job held.ok) (wide job held.ok k) before (omega arith));
-    kinds_left = rw e held.kinds_are;
     states_left = rw e held.states_are;
   }
 
-  pub all_read : rows job ≤ k → Collapsed job before area (record { answer = passed; types = types; kinds = kinds })
+  pub all_read : rows job ≤ k → Collapsed job before area (Ok (record { types = types; kinds = kinds }))
   unfolding entered
   all_read l =
       let rs = job_rows job in
@@ -103,7 +105,7 @@ module _ {job before area : Bytes} {kinds : List Kind} {types k : ℕ} (held : H
       let all = ap (known rs) e ∙ known-all rs in
       let few : length (sampled rs) ≤ 128 = rw (← all, ← held.types_are) held.few in
       let t = few_types rs few in
-      ended passed (rw t) (rw (t, e))
+      ended (rw (t, e)) (rw (t, held.types_are, held.kinds_are, all))
 
   -- One row more: i is the first type that has it, or their number where none has.
   module _ {i : ℕ} (h : k < rows job) (found : i ≡ first types (λ j. is_same_row (stored_at area j) (stored (job_row job k)))) where
@@ -159,8 +161,8 @@ module _ {job before area : Bytes} {kinds : List Kind} {types k : ℕ} (held : H
         }
 
     -- The 129th type.
-    pub refused : types ≤ i → types ≡ 128 → Collapsed job before area (record { answer = Types k; types = types; kinds = kinds })
+    pub refused : types ≤ i → types ≡ 128 → Collapsed job before area (Err (Types k))
     unfolding entered
     refused l e =
         let (t, r) = new_129th (job_rows job) k within (miss l) (sym held.types_are ∙ e) in
-        ended (Types k) (rw (t, r)) (rw (t, r))
+        ended (rw (t, r)) (rw (t, r))

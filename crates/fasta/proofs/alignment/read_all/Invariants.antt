@@ -1,7 +1,5 @@
 -- `alignment::read_all` meets its contract: before byte i there is no fault, and everything is counted.
 use mathlib.Core.Path.{◌≡◌}
-use Prim.Native.Nat.{◌-◌, ◌≤◌}
-use lib.ListN.{length}
 use Rattle.fasta.specs.Lines.{line_start}
 use Rattle.fasta.specs.Sequences.{opened}
 use Rattle.fasta.specs.Read.{lengths_to}
@@ -9,7 +7,4 @@ use Rattle.fasta.proofs.alignment.Faults.{Clear}
 use Rattle.fasta.proofs.alignment.read_all.Given as goal
 
 abbrev pub invariant-loop-i : goal.invariant-loop-i
-invariant-loop-i l = (l.i ≤ length l.text) × (l.line ≡ line_start l.text l.i) × (l.begun ≡ opened l.text l.i) × (l.lengths ≡ lengths_to l.text l.i) × Clear l.text l.i
-
-abbrev pub decreases-loop-i : goal.decreases-loop-i
-decreases-loop-i l = length l.text - l.i
+invariant-loop-i l = (l.line ≡ line_start l.text l.i) × (l.begun ≡ opened l.text l.i) × (l.lengths ≡ lengths_to l.text l.i) × Clear l.text l.i

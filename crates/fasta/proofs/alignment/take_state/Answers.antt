@@ -1,5 +1,4 @@
 -- `alignment::take_state` meets its contract: the faults in their order, and else one state more.
-use mathlib.Core.Path.{refl}
 use Prim.Native.Nat.{◌≤◌, ◌<◌}
 use native.Mathlib.Omega.{arith}
 use Rattle.fasta.specs.Refusals.{held}
@@ -15,7 +14,7 @@ returns-then-full c =
     let (s, counted) = c.requires in
     let some : 1 ≤ c.args.begun = omega arith in
     let full : 64 ≤ held c.args.text.now c.args.i = omega (arith, held-is _ _ counted some) in
-    taken-fault _ _ (wide_is _ _ s (omega (arith, counted.begun_is)) (cc) full) refl counted.lengths_are
+    taken-fault _ _ (wide_is _ _ s (omega (arith, counted.begun_is)) (cc) full) counted.lengths_are
 
 pub bounds-lengths-begun-2 : goal.bounds-lengths-begun-2
 bounds-lengths-begun-2 c = last-within _ _ c.requires.1 (omega arith)

@@ -1,10 +1,6 @@
 -- `guesses::slot` meets its contract: after c bytes the sum is that of the first c.
-use Prim.Native.Nat.{◌-◌}
 use Rattle.medians.proofs.guesses.Mixed.{Mixed}
 use Rattle.medians.proofs.guesses.slot.Given as goal
 
 abbrev pub invariant-loop-c : goal.invariant-loop-c
 invariant-loop-c l = Mixed l.row l.c l.sum
-
-abbrev pub decreases-loop-c : goal.decreases-loop-c
-decreases-loop-c l = 64 - l.c

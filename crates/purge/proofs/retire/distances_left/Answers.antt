@@ -4,11 +4,6 @@ use Rattle.distances.proofs.Area.{all-passed}
 use Rattle.purge.proofs.retire.Squeezed.{line-squeezed}
 use Rattle.purge.proofs.retire.distances_left.Goals as goal
 
-pub line_left-requires : goal.line_left-requires
-line_left-requires c =
-    let p = c.requires in
-    (p.0, c.loop-a-test.true, p.1, omega (arith, c.loop-a.invariant.size))
-
 pub loop-a-preserved : goal.loop-a-preserved
 loop-a-preserved c =
     let t = c in

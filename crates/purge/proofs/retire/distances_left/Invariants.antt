@@ -1,5 +1,4 @@
 -- `retire::distances_left` meets its contract: the cells are passed line by line.
-use Prim.Native.Nat.{◌-◌}
 use Rattle.distances.specs.Area.{CellsWritten}
 use Rattle.distances.proofs.Area.{Passed, by_line}
 use Rattle.purge.specs.Left.{Among, squeezed}
@@ -7,6 +6,3 @@ use Rattle.purge.proofs.retire.distances_left.Given as goal
 
 abbrev pub invariant-loop-a : goal.invariant-loop-a
 invariant-loop-a l = CellsWritten (Passed by_line (Among l.t) l.a) (squeezed l.kept l.count l.initial.area) l.initial.area l.area
-
-abbrev pub decreases-loop-a : goal.decreases-loop-a
-decreases-loop-a l = l.t - l.a

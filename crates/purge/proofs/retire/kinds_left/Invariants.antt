@@ -1,10 +1,6 @@
 -- `retire::kinds_left` meets its contract: so many kinds are stored.
-use Prim.Native.Nat.{◌-◌, ◌≤◌}
 use Rattle.purge.specs.Left.{KindsLeft}
 use Rattle.purge.proofs.retire.kinds_left.Given as goal
 
 abbrev pub invariant-loop-a : goal.invariant-loop-a
-invariant-loop-a l = (l.a ≤ l.count) × KindsLeft l.kinds l.kept l.a l.left
-
-abbrev pub decreases-loop-a : goal.decreases-loop-a
-decreases-loop-a l = l.count - l.a
+invariant-loop-a l = KindsLeft l.kinds l.kept l.a l.left

@@ -1,5 +1,4 @@
 -- `retire::line_left` meets its contract: the cells of the line are passed column by column.
-use Prim.Native.Nat.{◌-◌}
 use Rattle.distances.specs.Area.{CellsWritten, Line}
 use Rattle.distances.proofs.Area.{Passed, by_column}
 use Rattle.purge.specs.Left.{squeezed}
@@ -7,6 +6,3 @@ use Rattle.purge.proofs.retire.line_left.Given as goal
 
 abbrev pub invariant-loop-b : goal.invariant-loop-b
 invariant-loop-b l = CellsWritten (Passed by_column (Line l.a l.t) l.b) (squeezed l.kept l.count l.initial.area) l.initial.area l.area
-
-abbrev pub decreases-loop-b : goal.decreases-loop-b
-decreases-loop-b l = l.t - l.b

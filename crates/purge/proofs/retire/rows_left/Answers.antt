@@ -1,6 +1,6 @@
 -- `retire::rows_left` meets its contract: so many rows are parted.
 use native.Mathlib.Omega.{arith}
-use Rattle.purge.proofs.retire.Parted.{none-parted, same_size, few-stay, one-stays, one-goes, all-parted}
+use Rattle.purge.proofs.retire.Parted.{none-parted, same_size, few-stay, one-stays, one-goes}
 use Rattle.purge.proofs.retire.rows_left.Goals as goal
 use Rattle.purge.proofs.retire.rows_left.Goals.{then-a-count+then-kept-a, else-a-count, else-a-count-via-then-a-count+else-kept-a, else-a-count-via-else-a-count}
 
@@ -25,9 +25,3 @@ loop-i-preserved c =
             | else-a-count-via-else-a-count v ↦ omega (arith, v.if-a-count.false, n.0)
           ]))
     ]
-
-pub shape_of-states : goal.shape_of-states
-shape_of-states c = same_size c.loop-i.invariant
-
-pub returns : goal.returns
-returns c = all-parted c.loop-i.invariant c.loop-i-test.false

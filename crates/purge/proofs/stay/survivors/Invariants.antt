@@ -1,10 +1,6 @@
 -- `stay::survivors` meets its contract: after i types it holds the places of those that stay.
-use Prim.Native.Nat.{◌-◌}
 use Rattle.purge.proofs.stay.Staying.{Passed}
 use Rattle.purge.proofs.stay.survivors.Given as goal
 
 abbrev pub invariant-loop-i : goal.invariant-loop-i
 invariant-loop-i l = Passed l.area l.kinds l.t l.kept l.count l.i
-
-abbrev pub decreases-loop-i : goal.decreases-loop-i
-decreases-loop-i l = l.t - l.i

@@ -8,7 +8,7 @@ use Rattle.result.proofs.ordered.count_line.Goals as goal
 use Rattle.result.proofs.ordered.count_line.Goals.{then-linked, else-linked}
 
 pub loop-j-init : goal.loop-j-init
-loop-j-init c = (omega arith, omega arith, omega arith, sym (lower c.args.area.now c.args.i _ (omega arith)))
+loop-j-init c = (omega arith, omega arith, sym (lower c.args.area.now c.args.i _ (omega arith)))
 
 pub loop-j-preserved : goal.loop-j-preserved
 loop-j-preserved c =
@@ -27,4 +27,4 @@ unfolding line_of
 returns c =
     let l = c.loop-j in
     let e : l.j ≡ c.args.t = omega arith in
-    rw e at l.invariant.3
+    rw e at l.invariant.2

@@ -7,10 +7,7 @@ use Rattle.result.proofs.ordered.count_links.Goals as goal
 
 pub loop-i-init : goal.loop-i-init
 unfolding gather
-loop-i-init c = (omega arith, omega arith, refl)
-
-pub count_line-n-requires : goal.count_line-n-requires
-count_line-n-requires c = (omega arith, omega arith, omega arith)
+loop-i-init c = (omega arith, refl)
 
 pub overflow_add-n : goal.overflow_add-n
 overflow_add-n c =
@@ -22,10 +19,10 @@ loop-i-preserved c =
     let l = c in
     let a = l.args in
     let short = line-short a.area.now a.t l.loop-i.i in
-    (omega arith, omega (arith, short, c.count_line-n.ensures), omega (arith, c.count_line-n.ensures, links-more a.area.now a.t l.loop-i.i))
+    (omega (arith, short, c.count_line-n.ensures), omega (arith, c.count_line-n.ensures, links-more a.area.now a.t l.loop-i.i))
 
 pub returns : goal.returns
 returns c =
     let l = c in
     let a = l.args in
-    let e : l.loop-i.i ≡ a.t = omega arith in (rw e at l.loop-i.invariant.2) ∙ links-all a.area.now a.t
+    let e : l.loop-i.i ≡ a.t = omega arith in (rw e at l.loop-i.invariant.1) ∙ links-all a.area.now a.t

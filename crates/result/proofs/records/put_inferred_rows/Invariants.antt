@@ -7,7 +7,4 @@ use Rattle.result.specs.Records.{inferred_rows}
 use Rattle.result.proofs.records.put_inferred_rows.Given as goal
 
 abbrev pub invariant-loop-k : goal.invariant-loop-k
-invariant-loop-k l = (l.s ≤ l.k) × (l.k ≤ l.t) × (length l.out ≡ length l.initial.out) × (l.out ≡ placed l.initial.out l.at (inferred_rows l.m l.states l.s (l.k - l.s)))
-
-abbrev pub decreases-loop-k : goal.decreases-loop-k
-decreases-loop-k l = l.t - l.k
+invariant-loop-k l = (l.s ≤ l.k) × (length l.out ≡ length l.initial.out) × (l.out ≡ placed l.initial.out l.at (inferred_rows l.m l.states l.s (l.k - l.s)))

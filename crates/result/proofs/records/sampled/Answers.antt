@@ -13,20 +13,20 @@ use Rattle.result.proofs.records.sampled.Goals.{in-Sampled, in_default}
 
 pub loop-k-init : goal.loop-k-init
 unfolding sum
-loop-k-init c = (omega arith, omega arith, refl)
+loop-k-init c = (omega arith, refl)
 
 pub loop-k-preserved : goal.loop-k-preserved
 loop-k-preserved c =
     let l = c.loop-k in
     let one : Origin → ℕ = λ o. cond (not (inferred o)) 1 0 in
     let more = sum_more l.k (λ i. one (kind_at c.args.kinds i).origin) in
-    elim c.match-origin.branch [
-      | in-Sampled w ↦ (omega arith, omega (arith, w.sampled-is), w.sampled-is ∙ omega (arith, l.invariant.2, more, ap one w.in-Sampled.is))
-      | in_default w ↦ (omega arith, omega (arith, w.sampled-is), w.sampled-is ∙ omega (arith, l.invariant.2, more, ap one w.in_default.is))
+    elim c.match-kinds-k.branch [
+      | in-Sampled w ↦ (omega (arith, w.sampled-is), w.sampled-is ∙ omega (arith, l.invariant.1, more, ap one w.in-Sampled.is))
+      | in_default w ↦ (omega (arith, w.sampled-is), w.sampled-is ∙ omega (arith, l.invariant.1, more, ap one w.in_default.is))
     ]
 
 pub returns : goal.returns
 returns c =
     let l = c.loop-k in
     let e : l.k ≡ c.args.t = omega arith in
-    (l.invariant.2 ∙ rw e, omega arith)
+    (l.invariant.1 ∙ rw e, omega arith)

@@ -1,7 +1,6 @@
 -- `table::list_links`: the first k links stand at the front of the table, and the last one listed is the k-th.
 use mathlib.Core.Path.{◌≡◌}
 use mathlib.Core.List.{◌∷◌}
-use Prim.Native.Nat.{◌-◌, ◌≤◌}
 use Rattle.rules.specs.Links.{link_at}
 use Rattle.purge.specs.Network.{links_in}
 use Rattle.result.specs.Order.{no_link}
@@ -10,7 +9,4 @@ use Rattle.result.proofs.table.list_links.Given as goal
 
 abbrev pub invariant-loop-k : goal.invariant-loop-k
 invariant-loop-k l =
-    (l.k ≤ l.n) × (l.last ≡ link_at (no_link ∷ links_in l.t l.area) l.k) × (l.links ≡ filled l.initial.links (links_in l.t l.area) l.k)
-
-abbrev pub decreases-loop-k : goal.decreases-loop-k
-decreases-loop-k l = l.n - l.k
+    (l.last ≡ link_at (no_link ∷ links_in l.t l.area) l.k) × (l.links ≡ filled l.initial.links (links_in l.t l.area) l.k)

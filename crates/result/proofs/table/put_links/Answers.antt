@@ -1,5 +1,5 @@
 -- `table::put_links` meets its contract: each turn writes the bytes of one more link.
-use mathlib.Core.Path.{◌≡◌, ap, ◌∙◌}
+use mathlib.Core.Path.{ap, ◌∙◌}
 use Prim.Native.Nat.{◌+◌, ◌*◌}
 use native.Mathlib.Omega.{arith}
 use Rattle.std.proofs.Common.{add-one}
@@ -10,17 +10,11 @@ use Rattle.result.proofs.table.Bytes.{after_none, after_more}
 use Rattle.result.proofs.table.put_links.Goals as goal
 
 pub loop-k-init : goal.loop-k-init
-loop-k-init c = (omega arith, after_none c.args.links.now c.args.out.now c.args.at)
+loop-k-init c = after_none c.args.links.now c.args.out.now c.args.at
 
 pub loop-k-preserved : goal.loop-k-preserved
 loop-k-preserved c =
     let l = c.loop-k in
     let a = c.args in
     let one = link_bytes (link_at a.links.now l.k) in
-    (omega arith, c.put_link.ensures ∙ ap (λ out. placed out (a.at + 6 * l.k) one) l.invariant.1 ∙ rw add-one (after_more a.links.now a.out.now a.at l.k (omega arith)))
-
-pub returns : goal.returns
-returns c =
-    let l = c.loop-k in
-    let e : l.k ≡ c.args.n = omega arith in
-    rw e at l.invariant.1
+    c.put_link.ensures ∙ ap (λ out. placed out (a.at + 6 * l.k) one) l.invariant ∙ rw add-one (after_more a.links.now a.out.now a.at l.k (omega arith))

@@ -1,11 +1,7 @@
 -- `table::put_links`: the bytes of the first k links stand behind the place.
 use mathlib.Core.Path.{◌≡◌}
-use Prim.Native.Nat.{◌-◌, ◌≤◌}
 use Rattle.result.proofs.table.Bytes.{after}
 use Rattle.result.proofs.table.put_links.Given as goal
 
 abbrev pub invariant-loop-k : goal.invariant-loop-k
-invariant-loop-k l = (l.k ≤ l.n) × (l.out ≡ after l.links l.initial.out l.at l.k)
-
-abbrev pub decreases-loop-k : goal.decreases-loop-k
-decreases-loop-k l = l.n - l.k
+invariant-loop-k l = l.out ≡ after l.links l.initial.out l.at l.k

@@ -1,6 +1,6 @@
 -- `ascending::ascending` meets its contract: the first k rows are sorted.
 use mathlib.Core.Path.{◌≡◌}
-use Prim.Native.Nat.{ℕ, ◌-◌, ◌≤◌}
+use Prim.Native.Nat.{ℕ}
 use lib.ListN.{length}
 use Rattle.rules.specs.Job.{Bytes}
 use Rattle.memory.specs.Placed.{placed}
@@ -8,13 +8,9 @@ use Rattle.types.specs.State.{stored_at, laid}
 use Rattle.round.specs.Sorted.{sorted}
 use Rattle.round.proofs.ascending.ascending.Given as goal
 
-pub record Sorting (found : Bytes) (count : ℕ) (rows : Bytes) (k : ℕ) : Type 0 where
+pub record Sorting (found : Bytes) (rows : Bytes) (k : ℕ) : Type 0 where
   pub size : length rows ≡ 8192
-  pub read : k ≤ count
   pub is : rows ≡ placed found 0 (laid (sorted k (stored_at found)))
 
 abbrev pub invariant-loop-k : goal.invariant-loop-k
-invariant-loop-k l = Sorting l.initial.rows l.count l.rows l.k
-
-abbrev pub decreases-loop-k : goal.decreases-loop-k
-decreases-loop-k l = l.count - l.k
+invariant-loop-k l = Sorting l.initial.rows l.rows l.k

@@ -6,7 +6,7 @@ use lib.ListN.{length-replicate}
 use Rattle.medians.specs.declared.search.Search.{Search}
 use Rattle.sweep.specs.declared.Size.{Size}
 use Rattle.sweep.proofs.Floors.{floors-first}
-use Rattle.round.proofs.candidates.Chosen.{lambda_sought, lambda_rows, choosing_as, remembered_as, fresh_as}
+use Rattle.round.proofs.candidates.Chosen.{lambda_sought, lambda_rows, choosing_as, remembered_as}
 use Rattle.round.proofs.candidates.choose.Goals as goal
 
 pub sweep-least-requires : goal.sweep-least-requires
@@ -44,11 +44,3 @@ gather_window-all-requires c =
       lambda_sought _ e is.1,
       lambda_rows e.swept (rw is.1 refl) (rw is.1 refl),
     )
-
-pub returns : goal.returns
-returns c =
-    let e = c.sweep-least.ensures in
-    let is = c.seeking.ensures in
-    let size : ◌≡◌ {A = Size} c.sweep-least.result.size c.args.size = e.size_stays ∙ is.0 in
-    let made : c.sweep-least.result.search.made ≡ c.args.made = e.swept.made_stays ∙ ap (λ (s : Search). s.made) is.1 in
-    rw c.come_to.ensures (fresh_as size made c.gather_window-all.ensures)

@@ -12,7 +12,7 @@ header_of-header-requires c = let ok : number (checked c.args.job.now) ≡ 0 = c
 pub purge-left-requires : goal.purge-left-requires
 purge-left-requires c =
     let head = c.header_of-header.ensures in
-    let begun = c.begin-begun.ensures in
+    let begun = rw c.in-Ok.is at c.begin.ensures in
     let (few, made, epsilon) = begun-small begun (omega (arith, head.epsilon_is, head.epsilon_fits)) in
     (few, made, epsilon, omega (arith, begun.states_size), omega (arith, begun.area_size))
 
@@ -21,7 +21,7 @@ show_types-requires c =
     let ok : number (checked c.args.job.now) ≡ 0 = cc in
     let head = c.header_of-header.ensures in
     let left = c.purge-left.ensures in
-    let begun = c.begin-begun.ensures in
+    let begun = rw c.in-Ok.is at c.begin.ensures in
     let (few, made, epsilon) = begun-small begun (omega (arith, head.epsilon_is, head.epsilon_fits)) in (
       omega (arith, left.states_size, begun.states_size),
       omega (arith, head.width_is, (passed_is _ ok).width-within.at_most),
@@ -32,7 +32,7 @@ pub show_links-requires : goal.show_links-requires
 show_links-requires c =
     let head = c.header_of-header.ensures in
     let left = c.purge-left.ensures in
-    let begun = c.begin-begun.ensures in
+    let begun = rw c.in-Ok.is at c.begin.ensures in
     let (few, made, epsilon) = begun-small begun (omega (arith, head.epsilon_is, head.epsilon_fits)) in (
       omega (arith, left.area_size, begun.area_size),
       omega (arith, left.no_more, few, made),

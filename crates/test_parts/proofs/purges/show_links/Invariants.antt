@@ -3,4 +3,4 @@ use Rattle.std.proofs.Common.{◌*◌, ◌≤◌}
 use Rattle.test_parts.proofs.purges.show_links.Given as goal
 
 abbrev pub invariant-loop-i : goal.invariant-loop-i
-invariant-loop-i l = (l.i ≤ l.t) × (l.links ≤ l.i * 128)
+invariant-loop-i l = l.links ≤ l.i * 128

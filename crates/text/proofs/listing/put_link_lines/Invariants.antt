@@ -1,5 +1,4 @@
 -- `listing::put_link_lines`: after k links their lines stand behind what was written.
-use Prim.Native.Nat.{◌-◌}
 use Rattle.rules.specs.Job.{word}
 use Rattle.rules.specs.Text.{link_line}
 use Rattle.memory.proofs.decimals.Upto.{Upto}
@@ -8,6 +7,3 @@ use Rattle.text.proofs.listing.put_link_lines.Given as goal
 
 abbrev pub invariant-loop-k : goal.invariant-loop-k
 invariant-loop-k l = Upto (word l.block 6) (λ j. link_line (read_link l.block j)) l.initial.out l.fn.at l.k l.out l.at
-
-abbrev pub decreases-loop-k : goal.decreases-loop-k
-decreases-loop-k l = l.l - l.k

@@ -1,5 +1,4 @@
 -- `listing::put_type_lines`: after k types their lines stand behind what was written.
-use Prim.Native.Nat.{◌-◌}
 use Rattle.rules.specs.Job.{word}
 use Rattle.memory.proofs.decimals.Upto.{Upto}
 use Rattle.text.specs.Lines.{type_line_of}
@@ -7,6 +6,3 @@ use Rattle.text.proofs.listing.put_type_lines.Given as goal
 
 abbrev pub invariant-loop-k : goal.invariant-loop-k
 invariant-loop-k l = Upto (word l.block 0) (type_line_of l.job l.block) l.initial.out l.fn.at l.k l.out l.at
-
-abbrev pub decreases-loop-k : goal.decreases-loop-k
-decreases-loop-k l = l.t - l.k

@@ -5,6 +5,3 @@ use Rattle.triplets.proofs.mismatches.find_mismatches.Given as goal
 
 abbrev pub invariant-loop-c : goal.invariant-loop-c
 invariant-loop-c l = Spelt 2 (λ k. bit (differ l.states l.i l.j k)) l.m l.c l.bits
-
-abbrev pub decreases-loop-c : goal.decreases-loop-c
-decreases-loop-c l = l.c

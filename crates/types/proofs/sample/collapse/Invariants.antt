@@ -1,10 +1,6 @@
 -- `sample::collapse` meets its contract: after k rows memory holds their types.
-use Prim.Native.Nat.{◌-◌}
 use Rattle.types.proofs.sample.Entering.{Holds}
 use Rattle.types.proofs.sample.collapse.Given as goal
 
 abbrev pub invariant-loop-k : goal.invariant-loop-k
 invariant-loop-k l = Holds l.job l.initial.states l.states l.kinds l.types l.k
-
-abbrev pub decreases-loop-k : goal.decreases-loop-k
-decreases-loop-k l = l.n - l.k
