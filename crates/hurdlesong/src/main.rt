@@ -12,7 +12,7 @@ use memory::copy;
 use rules::{Answer, LARGEST_JOB, RESULT_AREA};
 use service::answer_job;
 use std::io::{Read, Stdin};
-use streams::reading::read_most;
+use streams::reading::{came, read_full};
 use streams::{Console, Terminal};
 use text::{TEXT_ROOM, brief};
 
@@ -58,7 +58,7 @@ fn read_on<R: Read>(input: &mut R, front: &[u8], job: &mut [u8]) -> usize
 {
     copy(front, job, 0);
     let from = front.len();
-    let more = read_most(input, &mut job[from..]);
+    let more = came(read_full(input, &mut job[from..]));
     from + more
 }
 
@@ -76,7 +76,7 @@ fn main(rt: HostRuntime) {
     };
     let mut input = rt.stdin();
     let mut job = [0u8; 2047];
-    let n = read_most(&mut input, &mut job);
+    let n = came(read_full(&mut input, &mut job));
     if n < 2047 {
         answer(&mut console, &job[..n]);
     } else {

@@ -33,7 +33,9 @@ pub fn put_word(b: &mut [u8], i: usize, x: usize)
     requires { (i + 1 < length b.old) × (x ≤ 65535) }
     ensures { b.new ≡ placed b.old i (words (x ∷ [])) }
 {
-    copy(&(x as u16).to_le_bytes(), b, i);
+    let [low, high] = (x as u16).to_le_bytes();
+    b[i] = low;
+    b[i + 1] = high;
 }
 
 // Three numbers of 16 bits, one behind the other: so the blocks have a header, a record and a link.
@@ -51,8 +53,8 @@ pub fn clear<T: Copy>(cells: &mut [T], blank: T)
     ensures { cells.new ≡ replicate (length cells.old) blank }
 {
     // `fill` asks that a clone of the value cannot fail and is the value, which a `T: Copy` does not say
-    for cell in cells.iter_mut() {
-        *cell = blank;
+    for i in 0..cells.len() {
+        cells[i] = blank;
     }
 }
 
@@ -61,5 +63,8 @@ pub fn copy(s: &[u8], b: &mut [u8], at: usize)
     requires { at + length s.now ≤ length b.old }
     ensures { b.new ≡ placed b.old at s.now }
 {
-    b[at..at + s.len()].copy_from_slice(s);
+    // by `copy_from_slice` the archive for C needs `memmove` as well
+    for i in 0..s.len() {
+        b[at + i] = s[i];
+    }
 }

@@ -9,6 +9,7 @@ pub mod draw;
 ghost use Rattle.network.specs.Called.{Answered, Called, Linked, Unlinked};
 
 use crate::draw::Sketch;
+use answers::first_of;
 use job::areas::check_areas;
 use job::checks::check;
 use memory::clear;
@@ -25,8 +26,8 @@ fn refuse_or_draw(
 ) -> Result<Sketch, Refusal>
     ensures { Answered job.now res.old states.old distances.old links result res.new states.new distances.new }
 {
-    check_areas(res.len(), states.len(), distances.len(), links)?;
-    check(job)?;
+    let areas = check_areas(res.len(), states.len(), distances.len(), links);
+    first_of(areas, check(job))?;
     draw::draw(job, res, states, distances)
 }
 

@@ -8,8 +8,9 @@ ghost use Rattle.memory.specs.Placed.{placed};
 ghost use Rattle.distances.specs.Area.{CellsWritten, Line};
 ghost use Rattle.purge.specs.Left.{Chosen, Among, squeezed, KindsLeft, parted};
 
+use memory::copy;
 use rules::{Kind, LINE, MOST_TYPES, ROW};
-use types::no_kinds;
+use types::{no_kinds, row_at};
 
 // Line a of t types of which some stay.
 fn line_left(area: &mut [u16], kept: &[usize], count: usize, t: usize, a: usize)
@@ -48,12 +49,14 @@ pub fn kinds_left(kinds: [Kind; MOST_TYPES], kept: &[usize], count: usize) -> [K
 }
 
 // Row i goes behind the other rows made, and those behind it move down.
-#[tactic(auto, using(crate::proofs::retire::Moved::turned))]
 fn to_the_end(states: &mut [u8], made: usize, i: usize)
     requires { (i < made) × (made ≤ most_types) × (row_size * made ≤ length states.old) }
     ensures { states.new ≡ placed states.old (row_size * i) (rows_from states.old (i + 1) made ++ stored_at states.old i) }
 {
-    states[ROW * i..ROW * made].rotate_left(ROW);
+    let end = ROW * made - ROW;
+    let row = row_at(states, i);
+    states.copy_within(ROW * i + ROW..ROW * made, ROW * i);
+    copy(&row, states, end);
 }
 
 // Of the first t rows made those at the places `kept` stay in front, and the others go behind all rows made.

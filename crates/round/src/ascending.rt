@@ -15,7 +15,15 @@ fn before(rows: &[u8], i: usize, row: &[u8; ROW]) -> bool
     requires { row_size * i + row_size ≤ length rows.now }
     ensures { result ≡ before (stored_at rows.now i) row.now }
 {
-    rows[ROW * i..ROW * i + ROW] < row[..]
+    let at = ROW * i;
+    // as a slice, the row is known to have 64 bytes
+    let bytes: &[u8] = row;
+    for c in 0..ROW {
+        if rows[at + c] != bytes[c] {
+            return rows[at + c] < bytes[c];
+        }
+    }
+    false
 }
 
 // The place of a row: the first of the rows that does not stand before it, or their count.

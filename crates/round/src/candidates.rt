@@ -15,6 +15,7 @@ use rules::{MOST_TYPES, STATE_AREA};
 use sweep::{Known, Size, Survey, sweep};
 
 // The rows that a round adds, ascending, with zeros behind them: an array and a count, since there is no heap.
+#[derive(Clone, Copy)]
 pub struct Added {
     pub rows: [u8; STATE_AREA],
     pub count: usize,

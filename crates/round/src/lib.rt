@@ -74,7 +74,9 @@ fn add_types(
 }
 
 // A round: all candidates of a cost of at most lambda and epsilon are added. The links of the current types stand in the area. Hands
-// back the run's next state, or none where there is no candidate. Where there is none, or no room for them, everything is as it was.
+// back the run's next state, or none where there is no candidate. Where there is none, or no room for them, everything is as it was. It is
+// not compiled into its caller: a call whose job is refused before any round would take the memory of one, too.
+#[inline(never)]
 pub fn round(
     states: &mut [u8],
     area: &mut [u16],

@@ -29,9 +29,9 @@ pub fn begin(
     clear(area, 0);
     let header = header_of(job);
     match collapse(job, states, header.rows, header.width) {
-        Err(refusal) => {
+        Err(many) => {
             clear(states, 0);
-            Err(refusal)
+            Err(Refusal::Types { place: many.place })
         }
         Ok(sample) => {
             let types = sample.types;

@@ -1,6 +1,6 @@
 // Memory is filled from a reader.
 
-ghost use Rattle.std.specs.Prelude.{◌<◌, ◌≤◌, length, take, IfOk, IfErr, MatchResult};
+ghost use Rattle.std.specs.Prelude.{◌≡◌, ◌<◌, ◌≤◌, length, take, IfOk, IfErr, MatchResult};
 ghost use Rattle.std.specs.Io.KnownBytes.{Consumes, IsAtEnd};
 
 use std::io::Read;
@@ -33,12 +33,11 @@ pub fn read_full<R: Read>(input: &mut R, room: &mut [u8]) -> Result<usize, Cut>
     Ok(done)
 }
 
-// The same, for whom a read that fails ends the input.
-pub fn read_most<R: Read>(input: &mut R, room: &mut [u8]) -> usize
-    ensures bound { result ≤ length room.new }
-    ensures bytes { Consumes (R.remaining input.old) (R.remaining input.new) (take result room.new) }
+// How many bytes came, for whom a read that fails ends the input.
+pub fn came(read: Result<usize, Cut>) -> usize
+    ensures { MatchResult read (λ n. result ≡ n) (λ cut. result ≡ cut.length) }
 {
-    match read_full(input, room) {
+    match read {
         Ok(length) => length,
         Err(cut) => cut.length,
     }

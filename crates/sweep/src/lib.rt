@@ -116,22 +116,15 @@ fn with_first(
         (WithFirst known.now.weights.now known.now.states.now known.now.area.now pair.size.types pair.met.search.made pair.c pair.a pair.size.types)
         mismatches.old gathered.old mismatches.new gathered.new guesses.new result }
 {
-    let Known {
-        states,
-        area,
-        weights,
-        next,
-        hints,
-    } = *known;
-    let Pair {
-        size: Size { width: m, types: n },
-        met: Met {
-            search: mut now,
-            floor: mut low,
-        },
-        c,
-        a,
-    } = pair;
+    let states = known.states;
+    let area = known.area;
+    let weights = known.weights;
+    let next = known.next;
+    let hints = known.hints;
+    let Pair { size, met, c, a } = pair;
+    let Size { width: m, types: n } = size;
+    let mut now = met.search;
+    let mut low = met.floor;
     let mut b = next[FOLLOWERS_LINE * c + a + 1] as usize;
     // no count: the next type is the follower
     while b < n {

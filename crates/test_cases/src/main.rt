@@ -10,7 +10,6 @@ use crate::build::Grid;
 use answers::tell;
 use rules::{Answer, Link, MOST_LINKS};
 use service::call_with;
-use std::io;
 use std::io::Stdout;
 use streams::printing::write_all;
 use text::text;
@@ -18,18 +17,17 @@ use text::text;
 // No area is longer.
 const LONGEST: usize = 60000;
 
+// Where a write fails, what comes behind it is written all the same.
+fn put(output: &mut Stdout, bytes: &[u8]) {
+    let _ = write_all(output, bytes);
+}
+
 // The first bytes of the text of an answer.
-fn print_answer<'a>(
-    output: &mut Stdout,
-    job: &'a [u8],
-    res: &'a [u8],
-    answer: Answer,
-    shown: u8,
-) -> io::Result<()> {
+fn print_answer<'a>(output: &mut Stdout, job: &'a [u8], res: &'a [u8], answer: Answer, shown: u8) {
     let mut out = [165u8; 172800];
     // What is left in the memory is printed, however the text ended.
     let _ = text(job, res, answer, &mut out);
-    write_all(output, &out[..shown as usize])
+    put(output, &out[..shown as usize]);
 }
 
 // Whether a record of the table is there.
@@ -60,27 +58,21 @@ fn answer_over(
     states: &mut [u8],
     distances: &mut [u16],
     table: [Link; MOST_LINKS],
-) -> io::Result<()> {
+) {
     let owned = call_with(job, res, states, distances, table);
     let answer = owned.answer;
     let table = owned.table;
-    print_answer(output, job, res, answer, shown)?;
+    print_answer(output, job, res, answer, shown);
     let told = tell(answer);
     if all_zero(res, told.used, states, distances, table) {
-        write_all(output, b"work memory and unused result zero\n")
+        put(output, b"work memory and unused result zero\n");
     } else {
-        write_all(output, b"something is left in the memory\n")
+        put(output, b"something is left in the memory\n");
     }
 }
 
 // A job is answered over memory that is full of leftovers, with the distance area that is lent.
-fn answer_within(
-    output: &mut Stdout,
-    job: &[u8],
-    shown: u8,
-    leftover: u8,
-    distances: &mut [u16],
-) -> io::Result<()> {
+fn answer_within(output: &mut Stdout, job: &[u8], shown: u8, leftover: u8, distances: &mut [u16]) {
     let mut result = [leftover; LONGEST];
     let mut states = [leftover; LONGEST];
     let wide = leftover as u16;
@@ -98,13 +90,13 @@ fn answer_within(
         &mut states,
         distances,
         [dirt; MOST_LINKS],
-    )
+    );
 }
 
-fn answer_twice(output: &mut Stdout, job: &[u8], shown: u8) -> io::Result<()> {
+fn answer_twice(output: &mut Stdout, job: &[u8], shown: u8) {
     let mut distances = [0u16; LONGEST];
-    answer_within(output, job, shown, 165, &mut distances)?;
-    answer_within(output, job, shown, 90, &mut distances)
+    answer_within(output, job, shown, 165, &mut distances);
+    answer_within(output, job, shown, 90, &mut distances);
 }
 
 // A job by its name, and how much of the text of its answer is shown.
@@ -207,35 +199,34 @@ const CASES: [Case; 8] = [
     },
 ];
 
-fn show_cases(output: &mut Stdout) -> io::Result<()> {
+fn show_cases(output: &mut Stdout) {
     for case in CASES {
-        write_all(output, case.name)?;
+        put(output, case.name);
         let job = case.job.built();
-        answer_twice(output, &job[..case.job.size()], case.shown)?;
+        answer_twice(output, &job[..case.job.size()], case.shown);
     }
-    Ok(())
 }
 
 // A distance area that is one number short: check 1 refuses the job, and everything is cleared all the same.
-fn area_short(output: &mut Stdout, job: &[u8]) -> io::Result<()> {
-    write_all(output, b"distance area one short\n")?;
-    answer_within(output, job, 12, 165, &mut [0u16; 16383])
+fn area_short(output: &mut Stdout, job: &[u8]) {
+    put(output, b"distance area one short\n");
+    answer_within(output, job, 12, 165, &mut [0u16; 16383]);
 }
 
 // The first example of the paper: A, B, C, D, with its weights, at epsilon 0.
-fn first_example(output: &mut Stdout) -> io::Result<()> {
-    write_all(output, b"example 1 of the paper\n")?;
+fn first_example(output: &mut Stdout) {
+    put(output, b"example 1 of the paper\n");
     let job =
         b"\x04\0\x05\0\0\0\x0c\0\x16\0\x2a\0\x01\0\x03\0\x02\0\x01\0\x02\000000110001011001101";
-    answer_twice(output, job, 137)?;
-    area_short(output, job)
+    answer_twice(output, job, 137);
+    area_short(output, job);
 }
 
-fn show(output: &mut Stdout) -> io::Result<()> {
-    show_cases(output)?;
-    first_example(output)
+fn show(output: &mut Stdout) {
+    show_cases(output);
+    first_example(output);
 }
 
 fn main(rt: HostRuntime) {
-    let _ = show(&mut rt.stdout());
+    show(&mut rt.stdout());
 }

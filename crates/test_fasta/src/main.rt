@@ -9,23 +9,30 @@ use answers::Told;
 use fasta::conversion::tell_conversion;
 use fasta::make_job;
 use memory::numerals::read_number;
-use std::io;
-use std::io::{Stdout, Write};
+use std::io::Stdout;
 use std::rt::{Env, Files};
 use streams::arguments::{argument, argument_count};
 use streams::files::open;
-use streams::printing::write_all;
-use streams::reading::read_most;
+use streams::printing::{print_decimal, write_all};
+use streams::reading::{came, read_full};
 use streams::{Console, NAME_ROOM, Terminal, buffer};
 
+// Where a write fails, what comes behind it is written all the same.
+fn put(output: &mut Stdout, bytes: &[u8]) {
+    let _ = write_all(output, bytes);
+}
+
+// A number in decimal, and what comes behind it.
+fn put_number(output: &mut Stdout, number: usize, behind: &[u8]) {
+    let _ = print_decimal(output, number);
+    put(output, behind);
+}
+
 // The number, the place and the bytes used, in decimal.
-fn print_told(output: &mut Stdout, told: Told) -> io::Result<()> {
-    let Told {
-        number,
-        place,
-        used,
-    } = told;
-    writeln!(output, "{number} {place} {used}")
+fn print_told(output: &mut Stdout, told: Told) {
+    put_number(output, told.number, b" ");
+    put_number(output, told.place, b" ");
+    put_number(output, told.used, b"\n");
 }
 
 // Whether all bytes from a place up to another have a value.
@@ -35,30 +42,23 @@ fn filled(bytes: &[u8], from: usize, to: usize, value: u8) -> bool {
 
 // The job of a text, in memory of which a part is lent. The memory is not clear, so that what is left in the part, and what is written past
 // it, shows.
-fn show(
-    output: &mut Stdout,
-    text: &[u8],
-    epsilon: u16,
-    lent: usize,
-    job: &mut [u8],
-) -> io::Result<()>
+fn show(output: &mut Stdout, text: &[u8], epsilon: u16, lent: usize, job: &mut [u8])
     requires { lent ≤ length job.old }
 {
     let told = tell_conversion(make_job(text, epsilon, &mut job[..lent]));
-    print_told(output, told)?;
+    print_told(output, told);
     let used = told.used;
     if used <= lent {
-        write_all(output, &job[..used])?;
+        put(output, &job[..used]);
     } else {
-        write_all(output, b"more is used than was lent\n")?;
+        put(output, b"more is used than was lent\n");
     }
     if !filled(job, used, lent, 0) {
-        write_all(output, b"something is left in the memory\n")?;
+        put(output, b"something is left in the memory\n");
     }
     if !filled(job, lent, job.len(), 165) {
-        write_all(output, b"memory past the job was written\n")?;
+        put(output, b"memory past the job was written\n");
     }
-    Ok(())
 }
 
 // The text in the file that argument k names. A stored text has at most the 65,536 bytes of the buffer.
@@ -71,9 +71,9 @@ fn show_file(rt: &(impl Env + Files), console: &mut Terminal, k: usize, epsilon:
         return;
     };
     let mut text = buffer::<65536>();
-    let n = read_most(&mut file, &mut text);
+    let n = came(read_full(&mut file, &mut text));
     let mut job = [165u8; 17000];
-    let _ = show(&mut console.output, &text[..n], epsilon, lent, &mut job);
+    show(&mut console.output, &text[..n], epsilon, lent, &mut job);
 }
 
 // The number that argument k says. One that is missing, empty or too long leaves no bytes, and those write no number.

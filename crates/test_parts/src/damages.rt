@@ -1,10 +1,9 @@
 // One part of a job at a time, at every value: values that are answered alike are one line.
 
-use crate::show::answer;
+use crate::show::{answer, number, put};
 use answers::{Told, tell};
 use job::checks::check;
-use std::io;
-use std::io::{Stdout, Write};
+use std::io::Stdout;
 
 // What is changed of a job: how many bytes of it there are, a number of 16 bits at a place, or a byte at a place.
 #[derive(Clone, Copy)]
@@ -45,27 +44,27 @@ impl Part {
 }
 
 // The values from the first to the last were answered alike.
-fn put_run(output: &mut Stdout, first: usize, last: usize, told: Told) -> io::Result<()> {
-    write!(output, "  {first}")?;
+fn put_run(output: &mut Stdout, first: usize, last: usize, told: Told) {
+    number(output, b"  ", first);
     if first < last {
-        write!(output, "..{last}")?;
+        number(output, b"..", last);
     }
-    answer(output, told)
+    answer(output, told);
 }
 
 // The part at every value, from 0 to the largest.
-pub(crate) fn damage_all(output: &mut Stdout, job: &mut [u8], part: Part) -> io::Result<()> {
-    writeln!(output)?;
+pub(crate) fn damage_all(output: &mut Stdout, job: &mut [u8], part: Part) {
+    put(output, b"\n");
     let last = part.largest(job);
     let mut told = part.answered(job, 0);
     let mut first = 0;
     for value in 0..last {
         let new = part.answered(job, value + 1);
         if (new.number, new.place) != (told.number, told.place) {
-            put_run(output, first, value, told)?;
+            put_run(output, first, value, told);
             told = new;
             first = value + 1;
         }
     }
-    put_run(output, first, last, told)
+    put_run(output, first, last, told);
 }

@@ -1,10 +1,22 @@
-// An answer is printed as its number and place.
+// Text, numbers and answers, printed. Where a write fails, what comes behind it is written all the same.
 
 use answers::Told;
-use std::io;
-use std::io::{Stdout, Write};
+use std::io::Stdout;
+use streams::printing::{print_decimal, write_all};
 
-// The end of a line.
-pub(crate) fn answer(output: &mut Stdout, told: Told) -> io::Result<()> {
-    writeln!(output, ": {} {}", told.number, told.place)
+pub(crate) fn put(output: &mut Stdout, text: &[u8]) {
+    let _ = write_all(output, text);
+}
+
+// A number, with text before it.
+pub(crate) fn number(output: &mut Stdout, before: &[u8], x: usize) {
+    put(output, before);
+    let _ = print_decimal(output, x);
+}
+
+// The end of a line: an answer's number and place.
+pub(crate) fn answer(output: &mut Stdout, told: Told) {
+    number(output, b": ", told.number);
+    number(output, b" ", told.place);
+    put(output, b"\n");
 }

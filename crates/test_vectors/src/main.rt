@@ -8,14 +8,14 @@ use std::rt::{Env, Files};
 use streams::arguments::{argument, argument_count};
 use streams::files::open;
 use streams::printing::write_all;
-use streams::reading::read_most;
+use streams::reading::{came, read_full};
 use streams::{Console, NAME_ROOM, Terminal, buffer};
 use text::TEXT_ROOM;
 
 // The answer to the job that a reader hands out.
 fn answer<R: Read>(console: &mut Terminal, input: &mut R) {
     let mut job = [0u8; 16525];
-    let n = read_most(input, &mut job);
+    let n = came(read_full(input, &mut job));
     let mut out = [0u8; TEXT_ROOM];
     let used = answer_text(&job[..n], &mut out);
     let _ = write_all(&mut console.output, &out[0..used]);

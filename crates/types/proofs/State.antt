@@ -8,7 +8,6 @@ use native.Mathlib.Decide.{ℕ_discrete}
 use native.Mathlib.Omega.{arith}
 use lib.Dec.{eqb}
 use lib.ListN.{length, get_or, drop, set, replicate, length-append, length-drop, length-set, length-map, length-replicate, get_or-replicate, get_or-append, get_or-map}
-use lib.Pointwise.{pointwise}
 use lib.Seq.{length-take-le, get_or-take, get_or-drop, get_or-append_seam, get_or-set_same, get_or-set_other, map-set_same, ext_get_or}
 use Rattle.graph.specs.Below.{gather, given, only, first}
 use Rattle.graph.proofs.Below.{table_ext, length-table, get_or-table, table-get_or, first-is, first_le, first-before, first-hits}
@@ -36,14 +35,6 @@ module _ (area : Bytes) (i : ℕ) where
   stored_at-is bs l h e =
       let n = length-stored_at h in
       ext_get_or 0 _ bs (n ∙ sym l) (λ c g. let k : c < 64 = omega arith in stored_at-state c k ∙ e c k)
-
--- Rows that are equal byte by byte.
-pub equal_is : (u v : Row) → pointwise eqb u v ≡ is_same_row u v
-unfolding is_same_row
-equal_is [] [] = refl
-equal_is [] (b ∷ v) = refl
-equal_is (a ∷ u) [] = refl
-equal_is (a ∷ u) (b ∷ v) = ap (λ (rest : Bool). eqb a b && rest) (equal_is u v)
 
 -- A stored row is 64 bytes, with the row's states in front. Rows of one width are equal as stored just where they are equal.
 pub length-stored : (r : Row) → length r ≤ 64 → length (stored r) ≡ 64

@@ -11,6 +11,7 @@ ghost use Rattle.rules.specs.Sizes.{most_types, row_size};
 ghost use Rattle.rules.specs.Types.{is_same_row};
 ghost use Rattle.types.specs.State.{stored_at, blank};
 
+use memory::eight_at;
 use rules::{Kind, MOST_TYPES, Origin, ROW};
 
 // The row of type i, as it is stored.
@@ -22,13 +23,20 @@ pub fn row_at(states: &[u8], i: usize) -> [u8; ROW]
     <[u8; ROW]>::try_from(&states[from..from + ROW]).unwrap()
 }
 
-// Whether type i of the state area has this row.
+// Whether type i of the state area has this row: eight bytes are compared at once.
 pub fn same_row(states: &[u8], i: usize, row: &[u8; ROW]) -> bool
     requires { row_size * i + row_size ≤ length states.now }
     ensures { result ≡ is_same_row (stored_at states.now i) row.now }
 {
     let from = ROW * i;
-    states[from..from + ROW] == row[..]
+    // as a slice, the row is known to have 64 bytes
+    let bytes: &[u8] = row;
+    for k in 0..8 {
+        if eight_at(states, from + 8 * k) != eight_at(bytes, 8 * k) {
+            return false;
+        }
+    }
+    true
 }
 
 // The first of t types that has this row, or t where none does: `first` of the definitions is such a number, and t is the next free place.

@@ -11,13 +11,20 @@ ghost use Rattle.types.specs.Collapse.{Collapsed};
 
 use crate::{find_row, no_kinds};
 use memory::copy;
-use rules::{Kind, MOST_TYPES, Origin, ROW, Refusal};
+use rules::{Kind, MOST_TYPES, Origin, ROW};
 
 // What the rows collapse to: how many types there are, and their kinds.
 #[derive(Clone, Copy)]
 pub struct Sample {
     pub types: usize,
     pub kinds: [Kind; MOST_TYPES],
+}
+
+// There are over 128 types: the row that is the 129th, and what the rows before it collapse to.
+#[derive(Clone, Copy)]
+pub struct TooMany {
+    pub place: usize,
+    pub before: Sample,
 }
 
 // A type that has row k alone, so far.
@@ -46,8 +53,8 @@ fn one_more(kind: Kind) -> Kind
     }
 }
 
-// RULES 5.1, 5.2: rows become sampled types, each at its first row; or the refusal TYPES.
-pub fn collapse(job: &[u8], states: &mut [u8], n: usize, m: usize) -> Result<Sample, Refusal>
+// RULES 5.1, 5.2: rows become sampled types, each at its first row; or there are too many of them.
+pub fn collapse(job: &[u8], states: &mut [u8], n: usize, m: usize) -> Result<Sample, TooMany>
     requires { (number (checked job.now) ≡ 0) × (n ≡ rows job.now) × (m ≡ width job.now) × (state_area ≤ length states.old) }
     ensures { Collapsed job.now states.old states.new result }
 {
@@ -61,7 +68,10 @@ pub fn collapse(job: &[u8], states: &mut [u8], n: usize, m: usize) -> Result<Sam
             let kind = kinds[i];
             kinds[i] = one_more(kind);
         } else if types == MOST_TYPES {
-            return Err(Refusal::Types { place: k });
+            return Err(TooMany {
+                place: k,
+                before: Sample { types, kinds },
+            });
         } else {
             copy(&row, states, ROW * types);
             kinds[types] = alone;

@@ -1,9 +1,11 @@
 -- The verdict by the stages of the call: the first refusal of checks 1 to 7; then what the run answers, or its network.
 use Rattle.std.specs.Prelude.{Result, Ok, Err}
 use mathlib.Core.Path.{◌≡◌, refl, sym, ap, subst, ◌∙◌}
-use mathlib.Core.Bool.{Bool, true, false}
+use mathlib.Core.Bool.{Bool, true, false, cond}
 use mathlib.Core.List.{List}
 use Prim.Native.Nat.{ℕ}
+use native.Mathlib.Omega.{arith}
+use lib.Dec.{eqb}
 use lib.ListN.{length}
 use borrow.Author.Tests.{eq-eqb, ne_eqb}
 use Rattle.rules.specs.Answers.{number, when◌refuse◌else◌, passed, Answer}
@@ -21,6 +23,8 @@ use Rattle.memory.specs.Placed.{placed}
 use Rattle.memory.proofs.Placed.{placed-none}
 use Rattle.purge.specs.Network.{links_in}
 use Rattle.result.specs.Front.{front}
+use Rattle.answers.specs.Told.{first_of}
+use Rattle.answers.proofs.First.{neither-refuses}
 use Rattle.run.specs.Ran.{run_answer, ran_to}
 use Rattle.readback.proofs.Found.{never_split-network}
 use Rattle.job.specs.Areas.{areas_answer}
@@ -35,24 +39,30 @@ module _ (a : Answer) (next : Verdict) where
   test-passes : number a ≡ 0 → (a then next) ≡ next
   test-passes z = rw (eq-eqb (number a) 0 z)
 
+-- Two tests, one behind the other.
+module _ (a b : Answer) (next : Verdict) where
+  two_refuse : {e : Refusal} → first_of a b ≡ Err e → (a then b then next) ≡ refused (Err e)
+  two_refuse = go (eqb (number a) 0)
+    where
+      go : {e : Refusal} (t : Bool) → cond t b a ≡ Err e → cond t (b then next) (refused a) ≡ refused (Err e)
+      go true told = test_refuses b next told
+      go false told = ap refused told
+
+passes-areas : (t : Bool) → number (when t refuse Err Area else passed) ≡ 0 → t ≡ false
+passes-areas true z = absurd (let n : 1 ≡ 0 = z in omega arith)
+passes-areas false z = refl
+
 module _ (lent : Lent) (job : Bytes) where
-  -- Check 1 refuses.
-  pub areas-refuse : {e : Refusal} → areas_answer lent ≡ Err e → verdict lent job ≡ refused (Err e)
+  -- Checks 1 to 7: the first that refuses, or none does.
+  abbrev first_refusal : Answer
+  first_refusal = first_of (areas_answer lent) (checked job)
+
+  pub first-verdict : {e : Refusal} → first_refusal ≡ Err e → verdict lent job ≡ refused (Err e)
   unfolding verdict
-  areas-refuse told = test_refuses (areas_answer lent) _ told
+  first-verdict told = two_refuse (areas_answer lent) (checked job) _ told
 
-  -- It passes, and one of checks 2 to 7 refuses, or none does.
-  module _ {used : ℕ} (pass : areas_answer lent ≡ Ok used) where
-    pub areas-pass : area_short lent ≡ false
-    areas-pass = go (area_short lent) pass
-      where
-        go : (t : Bool) → (when t refuse Err Area else passed) ≡ Ok used → t ≡ false
-        go true e = absurd (ok-not-err (sym e))
-        go false e = refl
-
-    pub check-refuses : {e : Refusal} → checked job ≡ Err e → verdict lent job ≡ refused (Err e)
-    unfolding verdict
-    check-refuses told = test-passes (areas_answer lent) _ (rw areas-pass) ∙ test_refuses (checked job) _ told
+  pub first-passed : {used : ℕ} → first_refusal ≡ Ok used → (area_short lent ≡ false) × (number (checked job) ≡ 0)
+  first-passed told = let (p, q) = neither-refuses (areas_answer lent) (checked job) (ap number told) in (passes-areas _ p, q)
 
   module _ (areas : area_short lent ≡ false) (pass : number (checked job) ≡ 0) where
     abbrev types_answer : Answer

@@ -1,12 +1,12 @@
 -- A row goes behind the others, and those behind it move down by a row.
-use mathlib.Core.Path.{◌≡◌, refl, sym, ap, ap₂, ◌∙◌}
+use mathlib.Core.Path.{◌≡◌, refl, sym, ap, ◌∙◌}
 use mathlib.Core.List.{List, ◌++◌, append_assoc}
 use Prim.Native.Nat.{ℕ, ◌+◌, ◌*◌, ◌-◌, ◌≤◌, ◌<◌}
 use native.Mathlib.Omega.{arith}
 use lib.ListN.{length, take, drop, length-append, length-drop}
-use lib.Seq.{length-take-le, take-take, drop-drop}
-use Rattle.std.proofs.lemmas.List.{drop-take}
+use lib.Seq.{length-take-le, drop-drop}
 use borrow.Rule.Slice.PartMut.{put_mid}
+use Rattle.std.specs.List.{copy_within}
 use Rattle.rules.specs.Job.{Bytes}
 use Rattle.rules.proofs.Block.{Stands, stands_in, stands_front, stands_rear, stands_part}
 use Rattle.types.specs.State.{stored_at, rows_from}
@@ -19,21 +19,22 @@ unfolding placed
 part-placed b xs at n e =
     sym (append_assoc (take at b) xs _) ∙ ap (λ (rest : _). take at b ++ xs ++ rest) (drop-drop n at b ∙ ap (λ (k : ℕ). drop (at + k) b) (sym e))
 
--- The rows from number i on, turned by one: those behind row i, and then that row.
-pub turned : (b ys : Bytes) (i made : ℕ) → i < made → 64 * made ≤ length b →
-    let rest = take (64 * made - 64 * i) (drop (64 * i) b) in
-    ys ≡ drop 64 rest ++ take 64 rest → put_mid (64 * i) (64 * made - 64 * i) b ys ≡ placed b (64 * i) (rows_from b (i + 1) made ++ stored_at b i)
-turned b ys i made h l e =
-    let s = drop (64 * i) b in
-    let k = 64 * (made - (i + 1)) in
-    let n : 64 * made - 64 * i ≡ 64 + k = omega arith in
-    let at : 64 * (i + 1) ≡ 64 * i + 64 = omega arith in
-    let first : take 64 (take (64 + k) s) ≡ take 64 s = take-take 64 (64 + k) s (omega arith) in
-    let later : drop 64 (take (64 + k) s) ≡ take k (drop (64 * (i + 1)) b) = drop-take 64 k s ∙ ap (take k) (drop-drop 64 (64 * i) b ∙ ap (λ (p : ℕ). drop p b) (sym at)) in
-    let is : ys ≡ take k (drop (64 * (i + 1)) b) ++ take 64 s = rw n at e ∙ ap₂ ◌++◌ later first in
-    let size : length (take k (drop (64 * (i + 1)) b) ++ take 64 s) ≡ k + 64 =
-    omega (arith, length-append {A = ℕ}, length-take-le k (drop (64 * (i + 1)) b) (rw length-drop (omega arith)), length-take-le 64 s (rw length-drop (omega arith))) in
-    part-placed b ys (64 * i) (64 * made - 64 * i) (ap length is ∙ omega (arith, size)) ∙ ap (placed b (64 * i)) is
+module _ (b : Bytes) (i made : ℕ) (below : i < made) (room : 64 * made ≤ length b) where
+  -- The rows behind row i, copied to where that one stood.
+  pub moved_down : (now : Bytes) → now ≡ copy_within b (64 * i + 64) (64 * made) (64 * i) → now ≡ placed b (64 * i) (rows_from b (i + 1) made)
+  unfolding placed
+  moved_down now e =
+      let n : 64 * made - (64 * i + 64) ≡ 64 * (made - (i + 1)) = omega arith in
+      let from : 64 * i + 64 ≡ 64 * (i + 1) = omega arith in
+      let size = length-take-le (64 * (made - (i + 1))) (drop (64 * (i + 1)) b) (rw length-drop (omega arith)) in
+      rw size (rw (n, from) at e)
+
+  -- The row, put behind them.
+  pub row-behind : (now row : Bytes) → now ≡ placed b (64 * i) (rows_from b (i + 1) made) →
+      placed now (64 * made - 64) row ≡ placed b (64 * i) (rows_from b (i + 1) made ++ row)
+  row-behind now row e =
+      let size = length-take-le (64 * (made - (i + 1))) (drop (64 * (i + 1)) b) (rw length-drop (omega arith)) in
+      rw e (placed-twice b (rows_from b (i + 1) made) (64 * i) (omega arith) (64 * made - 64) row (omega (arith, size)))
 
 -- Of what stands at the front, a row behind xs goes behind all that follows it.
 pub row-to-end : (b xs row ys : Bytes) (a made : ℕ) → length xs ≡ 64 * a → length row ≡ 64 → length ys ≡ 64 * (made - (a + 1)) →

@@ -3,16 +3,12 @@ use mathlib.Core.Path.{◌≡◌, refl, sym, ap, ◌∙◌}
 use mathlib.Core.Logic.{◌≢◌}
 use mathlib.Core.Bool.{Bool, true, false, false≢true}
 use mathlib.Core.List.{◌∷◌, []}
-use Prim.Native.Nat.{ℕ, Ordering, compare}
+use Prim.Native.Nat.{ℕ, zero, suc, ◌<◌, Ordering, compare}
+use native.Mathlib.Nat.{not-suc-le-zero}
 use native.Mathlib.Omega.{arith}
 use lib.Dec.{ltb, compare_is_eq}
+use lib.ListN.{length, get_or}
 use borrow.Author.Tests.{eqb-true, eq-eqb, leb-true, leb-false, lt-ltb, le-ltb}
-use Rattle.std.specs.declared.cmp.Ordering.{Ordering as Outcome}
-use Rattle.std.specs.declared.cmp.Ordering.TheVariants.{Less, Equal, Greater}
-use Rattle.std.specs.Prelude.{Some}
-use Rattle.std.specs.Ordering.{MatchOrdering, nat_cmp, is_lt, is_some_and}
-use Rattle.std.specs.Cmp.Lexicographic.{slice_partial_cmp}
-use Rattle.std.proofs.lemmas.Cmp.{ranked, same_from_slice_cmp_tested}
 use Rattle.rules.specs.Job.{Row}
 use Rattle.rules.specs.Round.{compare_rows}
 use Rattle.rules.proofs.Rows.{compare_rows_refl}
@@ -49,19 +45,11 @@ module _ (a b : ℕ) (x y : Row) where
       go Ordering.eq e = refl
       go Ordering.gt e = absurd (false≢true e)
 
--- Rows compared as slices are compared so.
-pub compared : (x y : Row) (r : Bool) → r ≡ is_some_and is_lt (slice_partial_cmp (λ a b. Some (nat_cmp a b)) x y) → r ≡ before x y
-unfolding compare_rows
-compared = same_from_slice_cmp_tested nat_cmp is_lt before (before_same [] [] refl) first second more
-  where
-    first : (b : ℕ) (y : Row) → before [] (b ∷ y) ≡ true
-    first b y = refl
-
-    second : (a : ℕ) (x : Row) → before (a ∷ x) [] ≡ false
-    second a x = refl
-
-    more : (a b : ℕ) (x y : Row) (o : Outcome) → o ≡ nat_cmp a b →
-        MatchOrdering o (before (a ∷ x) (b ∷ y) ≡ true) (before (a ∷ x) (b ∷ y) ≡ before x y) (before (a ∷ x) (b ∷ y) ≡ false)
-    more a b x y Less e = let l = ranked a b Less e in differ_now a b x y (λ s. omega (arith, l, s)) ∙ lt-ltb a b l
-    more a b x y Equal e = same_now a b x y (ranked a b Equal e)
-    more a b x y Greater e = let l = ranked a b Greater e in differ_now a b x y (λ s. omega (arith, l, s)) ∙ le-ltb a b (omega (arith, l))
+-- They differ at k, and before k they do not.
+pub differ-at : (x y : Row) (k : ℕ) → k < length x → k < length y → ((j : ℕ) → j < k → get_or x j 0 ≡ get_or y j 0) → get_or x k 0 ≢ get_or y k 0 →
+    before x y ≡ ltb (get_or x k 0) (get_or y k 0)
+differ-at [] y k h l e ne = absurd (not-suc-le-zero h)
+differ-at (a ∷ x) [] k h l e ne = absurd (not-suc-le-zero l)
+differ-at (a ∷ x) (b ∷ y) zero h l e ne = differ_now a b x y ne
+differ-at (a ∷ x) (b ∷ y) (suc k) h l e ne =
+    same_now a b x y (e 0 (omega arith)) ∙ differ-at x y k (omega arith) (omega arith) (λ j g. e (suc j) (omega arith)) ne

@@ -24,6 +24,7 @@ use Rattle.types.specs.State.{laid, kinds_of}
 use Rattle.types.proofs.State.{OfWidth, length-laid, length-stored, stored-state}
 use Rattle.types.specs.Collapse.{entered, Collapsed}
 use Rattle.types.specs.declared.sample.Sample.{Sample}
+use Rattle.types.specs.declared.sample.TooMany.{TooMany}
 use Rattle.types.proofs.sample.Collapsed.{entered_all, collapsed-few}
 use Rattle.distances.specs.Area.{Weighed, CellsWritten, New, stored_apart}
 use Rattle.distances.proofs.Measured.{behind_zero}
@@ -58,7 +59,7 @@ module _ (job : Bytes) (ok : number (checked job) ≡ 0) where
       }
 
   -- The types are not too many, and were collapsed into zeros.
-  module _ {lent : ℕ} (room : 8192 ≤ lent) {states : Bytes} {sample : Sample} {r : Result Sample Refusal}
+  module _ {lent : ℕ} (room : 8192 ≤ lent) {states : Bytes} {sample : Sample} {r : Result Sample TooMany}
       (c : Collapsed job (replicate lent 0) states r) (is : r ≡ Ok sample) where
     few : has_too_many (job_rows job) ≡ false
     few = (collapsed-few c is).0

@@ -9,20 +9,19 @@ use lib.ListN.{length, get_or, take, set, replicate, length-append, length-map, 
 use lib.Seq.{get_or-take}
 use Rattle.graph.specs.Below.{first}
 use Rattle.graph.proofs.Below.{first-before, first-hits}
-use Rattle.rules.specs.Answers.{number, when◌refuse◌else◌}
+use Rattle.rules.specs.Answers.{number}
 use Rattle.rules.specs.Job.{Bytes, rows, width, checked, job_row, job_rows}
-use Rattle.rules.specs.Types.{Node, row_count, row_at, node_at, rows_of, is_same_row, sampled, has_too_many, row129}
+use Rattle.rules.specs.Types.{Node, row_count, row_at, node_at, rows_of, is_same_row, sampled}
 use Rattle.rules.specs.declared.Kind.{Kind}
-use Rattle.rules.specs.declared.Refusal.{Refusal}
-use Rattle.rules.specs.declared.Refusal.TheVariants.{Types}
 use Rattle.rules.proofs.Job.{passed_is, length-rows, row-at, row-widths}
 use Rattle.rules.proofs.Rows.{same_row}
 use Rattle.rules.proofs.Sound.{rows-sampled}
 use Rattle.memory.specs.Placed.{placed}
 use Rattle.memory.proofs.Placed.{length-placed}
 use Rattle.types.specs.State.{stored, stored_at, laid, blank, kinds_of, single, more, one_more}
-use Rattle.types.specs.Collapse.{entered, sample_of, Collapsed}
+use Rattle.types.specs.Collapse.{entered, collapsed_to, Collapsed}
 use Rattle.types.specs.declared.sample.Sample.{Sample}
+use Rattle.types.specs.declared.sample.TooMany.{TooMany}
 use Rattle.types.proofs.State.{OfWidth, length-stored, length-laid, laid_none, laid_more, laid-first, kinds-none, kinds-at, kinds-more, kinds-set, row_of, rows_more, rows-set, read_back}
 use Rattle.types.proofs.sample.Prefix.{known, New, known-none, known-all, known-count, new_row, known-row, new_129th, few_types}
 
@@ -87,8 +86,7 @@ module _ {job before area : Bytes} {kinds : List Kind} {types k : ℕ} (held : H
       (omega (arith, known-count (job_rows job) k i, (passed_is job held.ok).rows-within.at_most))
 
   -- The end: the types held are those of the rows entered.
-  ended : {r : Result Sample Refusal} → entered (job_rows job) ≡ take k (job_rows job) →
-      r ≡ (when has_too_many (job_rows job) refuse Err (Types (row129 (job_rows job))) else Ok (sample_of (sampled (job_rows job)))) →
+  ended : {r : Result Sample TooMany} → entered (job_rows job) ≡ take k (job_rows job) → r ≡ collapsed_to (job_rows job) →
       Collapsed job before area r
   ended e is = record {
     answered = is;
@@ -161,8 +159,8 @@ module _ {job before area : Bytes} {kinds : List Kind} {types k : ℕ} (held : H
         }
 
     -- The 129th type.
-    pub refused : types ≤ i → types ≡ 128 → Collapsed job before area (Err (Types k))
+    pub refused : types ≤ i → types ≡ 128 → Collapsed job before area (Err (record { place = k; before = record { types = types; kinds = kinds } }))
     unfolding entered
     refused l e =
         let (t, r) = new_129th (job_rows job) k within (miss l) (sym held.types_are ∙ e) in
-        ended (rw (t, r)) (rw (t, r))
+        ended (rw (t, r)) (rw (t, r, held.types_are, held.kinds_are))

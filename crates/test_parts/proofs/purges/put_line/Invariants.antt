@@ -3,4 +3,4 @@ use Rattle.std.proofs.Common.{◌+◌, ◌≤◌}
 use Rattle.test_parts.proofs.purges.put_line.Given as goal
 
 abbrev pub invariant-loop-j : goal.invariant-loop-j
-invariant-loop-j l = l.i + l.links ≤ l.j-counter
+invariant-loop-j l = l.i + l.links ≤ l.j
