@@ -40,6 +40,8 @@ pub fn same_row(states: &[u8], i: usize, row: &[u8; ROW]) -> bool
 }
 
 // The first of t types that has this row, or t where none does: `first` of the definitions is such a number, and t is the next free place.
+// It is not compiled into its caller: when it was, a call took up to 1.6 times as long on one of two machines, by no more instructions.
+#[inline(never)]
 pub fn find_row(states: &[u8], t: usize, row: &[u8; ROW]) -> usize
     requires { row_size * t ≤ length states.now }
     ensures { result ≡ first t (λ i. is_same_row (stored_at states.now i) row.now) }
